@@ -1,0 +1,9 @@
+pub mod Examples
+pub mod Answers
+pub mod Modular
+pub mod Bits
+pub mod Machine
+pub mod Division
+pub mod Coordinates
+pub mod Places
+pub mod Reading
