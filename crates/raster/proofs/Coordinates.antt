@@ -1,0 +1,129 @@
+-- Whole numbers and the same numbers moved up: order, equality, difference, and a step toward.
+use mathlib.Core.Path.{_≡_, refl, sym, ap, _∙_}
+use mathlib.Core.Bool.{Bool, true, false, cond}
+use Prim.Native.Nat.{ℕ, zero, suc, _+_, _-_, _<_, _≤_}
+use native.Mathlib.Omega.{arith}
+use native.Mathlib.Decide.{decLt}
+use lib.IntN.{ℤ, pos, negsuc, natAbs, subℕ, _+ℤ_, _-ℤ_}
+use lib.Signed.{mag, leZ}
+use lib.Dec.{leb, eqb, leb→le, le→leb, eqb→eq}
+use mir.Syntax.{w32}
+use mir.Val.{toZ, ofZ}
+use mir.Facts.{toZ-ofZ}
+use borrow.Author.Tests.{leb-true, leb-false, lt-ltb, le-ltb, le-leb, lt-leb, ne-eqb}
+use Rattle.raster.specs.Shapes.{eqZ}
+use Rattle.raster.specs.Frame.{Coord}
+use Rattle.raster.specs.Line.{gap, toward}
+use Rattle.raster.specs.Moved.{bias, gapB, towardB}
+use Rattle.raster.proofs.Tests.{same, eq→T}
+
+pub bias-lt : (z : ℤ) → mag z < 65536 → bias z < 131072
+bias-lt (pos n) h = omega arith
+bias-lt (negsuc n) h = omega arith
+
+-- a coordinate comes back whole from a call
+pub back : (z : ℤ) → Coord z → toZ w32 (ofZ w32 z) ≡ z
+back z h = toZ-ofZ (record { sfits = omega (arith, h .small) })
+
+-- ---- differences of natural numbers
+pub sub-ge : (a b : ℕ) → b ≤ a → subℕ a b ≡ pos (a - b)
+sub-ge a b h = ap (λ (t : Bool). cond t (negsuc (b - suc a)) (pos (a - b))) (le-ltb a b h)
+
+pub sub-lt : (a b : ℕ) → a < b → subℕ a b ≡ negsuc (b - suc a)
+sub-lt a b h = ap (λ (t : Bool). cond t (negsuc (b - suc a)) (pos (a - b))) (lt-ltb a b h)
+
+-- two differences with one value
+sub-same : (x y u v : ℕ) → x + v ≡ u + y → subℕ x y ≡ subℕ u v
+sub-same x y u v e = by (decLt x y)
+  where
+    by : Dec (x < y) → subℕ x y ≡ subℕ u v
+    by (yes h) = sub-lt x y h ∙ ap negsuc (omega arith) ∙ sym (sub-lt u v (omega arith))
+    by (no h) = sub-ge x y (omega arith) ∙ ap pos (omega arith) ∙ sym (sub-ge u v (omega arith))
+
+pub pos-minus : (n k : ℕ) → pos n -ℤ pos k ≡ subℕ n k
+pos-minus n zero = ap pos (omega arith) ∙ sym (sub-ge n 0 (omega arith))
+pos-minus n (suc k) = refl
+
+pub neg-minus : (n k : ℕ) → negsuc n -ℤ pos k ≡ subℕ 0 (suc n + k)
+neg-minus n zero = sub-same 0 (suc n) 0 (suc n + 0) (omega arith)
+neg-minus n (suc k) = sym (sub-lt 0 (suc n + suc k) (omega arith) ∙ ap negsuc (omega arith))
+
+-- ---- order and equality
+leb-iff : (a b c d : ℕ) → (a ≤ b → c ≤ d) → (c ≤ d → a ≤ b) → leb a b ≡ leb c d
+leb-iff a b c d f g = same (leb a b) (leb c d) (λ t. le→leb c d (f (leb→le a b t))) (λ t. le→leb a b (g (leb→le c d t)))
+
+eqb-iff : (a b c d : ℕ) → (a ≡ b → c ≡ d) → (c ≡ d → a ≡ b) → eqb a b ≡ eqb c d
+eqb-iff a b c d f g = same (eqb a b) (eqb c d) (λ t. eq→T c d (f (eqb→eq a b t))) (λ t. eq→T a b (g (eqb→eq c d t)))
+
+pub le-pos : (z : ℤ) (i : ℕ) → mag z < 65536 → leZ z (pos i) ≡ leb (bias z) (i + 65536)
+le-pos (pos n) i h = leb-iff n i (n + 65536) (i + 65536) (λ l. omega arith) (λ l. omega arith)
+le-pos (negsuc n) i h = sym (le-leb (65535 - n) (i + 65536) (omega arith))
+
+pub pos-le : (z : ℤ) (i : ℕ) → mag z < 65536 → leZ (pos i) z ≡ leb (i + 65536) (bias z)
+pos-le (pos n) i h = leb-iff i n (i + 65536) (n + 65536) (λ l. omega arith) (λ l. omega arith)
+pos-le (negsuc n) i h = sym (lt-leb (i + 65536) (65535 - n) (omega arith))
+
+le-is : (a b : ℤ) → mag a < 65536 → mag b < 65536 → leZ a b ≡ leb (bias a) (bias b)
+le-is a (pos b) h k = le-pos a b h
+le-is (pos a) (negsuc b) h k = pos-le (negsuc b) a k
+le-is (negsuc a) (negsuc b) h k = leb-iff b a (65535 - a) (65535 - b) (λ l. omega arith) (λ l. omega arith)
+
+pub eq-pos : (z : ℤ) (i : ℕ) → mag z < 65536 → eqZ z (pos i) ≡ eqb (bias z) (i + 65536)
+eq-pos (pos n) i h = eqb-iff n i (n + 65536) (i + 65536) (λ e. omega arith) (λ e. omega arith)
+eq-pos (negsuc n) i h = sym (ne-eqb (65535 - n) (i + 65536) (omega arith))
+
+-- the same of a number that is given moved up
+pub sub-pos : (x i : ℕ) → eqZ (subℕ x 65536) (pos i) ≡ eqb x (i + 65536)
+sub-pos x i = by (decLt x 65536)
+  where
+    by : Dec (x < 65536) → eqZ (subℕ x 65536) (pos i) ≡ eqb x (i + 65536)
+    by (yes h) = ap (λ (z : ℤ). eqZ z (pos i)) (sub-lt x 65536 h) ∙ sym (ne-eqb x (i + 65536) (omega arith))
+    by (no h) =
+        ap (λ (z : ℤ). eqZ z (pos i)) (sub-ge x 65536 (omega arith))
+        ∙ eqb-iff (x - 65536) i x (i + 65536) (λ e. omega arith) (λ e. omega arith)
+
+-- ---- sums and differences
+pub up : (z : ℤ) → mag z < 65536 → z +ℤ pos 65536 ≡ pos (bias z)
+up (pos n) h = refl
+up (negsuc n) h = sub-ge 65536 (suc n) (omega arith) ∙ ap pos (omega arith)
+
+plus : (z : ℤ) (k : ℕ) → mag z < 65536 → z +ℤ pos k ≡ subℕ (bias z + k) 65536
+plus (pos n) k h = sym (sub-ge (n + 65536 + k) 65536 (omega arith) ∙ ap pos (omega arith))
+plus (negsuc n) k h = sub-same k (suc n) (65535 - n + k) 65536 (omega arith)
+
+minus : (z : ℤ) (k : ℕ) → mag z < 65536 → k ≤ bias z → z -ℤ pos k ≡ subℕ (bias z - k) 65536
+minus (pos n) k h l = pos-minus n k ∙ sub-same n k (n + 65536 - k) 65536 (omega arith)
+minus (negsuc n) k h l = neg-minus n k ∙ sub-same 0 (suc n + k) (65535 - n - k) 65536 (omega arith)
+
+apart : (a b : ℤ) → mag a < 65536 → mag b < 65536 → b -ℤ a ≡ subℕ (bias b) (bias a)
+apart (pos a) (pos b) h k = pos-minus b a ∙ sub-same b a (b + 65536) (a + 65536) (omega arith)
+apart (negsuc a) (pos b) h k =
+    sym (sub-ge (b + suc a) 0 (omega arith) ∙ ap pos (omega arith)) ∙ sub-same (b + suc a) 0 (b + 65536) (65535 - a) (omega arith)
+apart (pos a) (negsuc b) h k = neg-minus b a ∙ sub-same 0 (suc b + a) (65535 - b) (a + 65536) (omega arith)
+apart (negsuc a) (negsuc b) h k = sub-same (suc a) (suc b) (65535 - b) (65535 - a) (omega arith)
+
+abs-sub : (x y : ℕ) → natAbs (subℕ x y) ≡ (x - y) + (y - x)
+abs-sub x y = by (decLt x y)
+  where
+    by : Dec (x < y) → natAbs (subℕ x y) ≡ (x - y) + (y - x)
+    by (yes h) = ap natAbs (sub-lt x y h) ∙ (omega arith)
+    by (no h) = ap natAbs (sub-ge x y (omega arith)) ∙ (omega arith)
+
+pub gap-is : (a b : ℤ) → Coord a → Coord b → gap a b ≡ gapB (bias a) (bias b)
+gap-is a b h k = ap natAbs (apart a b (h .small) (k .small)) ∙ abs-sub (bias b) (bias a)
+
+module _ (a b : ℤ) (k : ℕ) (h : mag a < 65536) (l : k ≤ gapB (bias a) (bias b)) where
+  toward-by : (t : Bool) → leb (bias a) (bias b) ≡ t → cond t (a +ℤ pos k) (a -ℤ pos k) ≡ subℕ (towardB (bias a) (bias b) k) 65536
+  toward-by true e = plus a k h ∙ ap (λ (x : ℕ). subℕ x 65536) at
+    where
+      at : bias a + k ≡ towardB (bias a) (bias b) k
+      at = omega (arith, leb-true (bias a) (bias b) e)
+  toward-by false e = minus a k h (omega (arith, leb-false (bias a) (bias b) e)) ∙ ap (λ (x : ℕ). subℕ x 65536) at
+    where
+      at : bias a - k ≡ towardB (bias a) (bias b) k
+      at = omega (arith, leb-false (bias a) (bias b) e)
+
+pub toward-is : (a b : ℤ) (k : ℕ) → Coord a → Coord b → k ≤ gapB (bias a) (bias b) → toward a b k ≡ subℕ (towardB (bias a) (bias b) k) 65536
+toward-is a b k h h′ l =
+    ap (λ (t : Bool). cond t (a +ℤ pos k) (a -ℤ pos k)) (le-is a b (h .small) (h′ .small))
+    ∙ toward-by a b k (h .small) l (leb (bias a) (bias b)) refl

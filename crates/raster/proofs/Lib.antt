@@ -1,0 +1,15 @@
+-- What follows from the rules:
+pub mod Paintings
+pub mod Stores
+pub mod LineEnds
+pub mod Pictures
+-- The laws that proofs cite, here and in the crates above:
+pub mod Tests
+pub mod Recolour
+pub mod Coordinates
+pub mod Rectangles
+pub mod Pixels
+pub mod Sides
+pub mod Lines
+pub mod Rows
+pub mod Drawings

@@ -1,0 +1,38 @@
+-- The pictures of document 01's cases 9 and 10, by computation.
+use mathlib.Core.Path.{_≡_, refl}
+use mathlib.Core.List.{[], _∷_}
+use Prim.Native.Nat.{ℕ}
+use lib.IntN.{pos}
+use lib.ListN.{replicate}
+use Rattle.raster.specs.declared.frame.Frame.{Frame}
+use Rattle.raster.specs.declared.line.Line.{Line}
+use Rattle.raster.specs.Shapes.{someBelow}
+use Rattle.raster.specs.Frame.{drawable}
+use Rattle.raster.specs.Paint.{recolourFrom, paint}
+use Rattle.raster.specs.Line.{side, line}
+
+-- a fresh frame on a 5 x 3 screen, its pane from column l on
+abbrev fresh : ℕ → Frame
+fresh l =
+    record {
+      bounds = record { width = 5; height = 3; pane = record { left = l; top = 0; right = 4; bottom = 2 } };
+      mode = 0;
+      window = record { x0 = pos 0; y0 = pos 0; x1 = pos 4; y1 = pos 2 };
+    }
+
+abbrev slant : Line
+slant = record { from = record { x = pos 0; y = pos 0 }; to = record { x = pos 4; y = pos 2 } }
+
+pub case-9 : paint (fresh 0) (line slant) 15 (replicate 15 0)
+    ≡ 15 ∷ 0 ∷ 0 ∷ 0 ∷ 0
+    ∷ 0 ∷ 15 ∷ 15 ∷ 0 ∷ 0
+    ∷ 0 ∷ 0 ∷ 0 ∷ 15 ∷ 15 ∷ []
+unfolding paint drawable line side someBelow recolourFrom
+case-9 = refl
+
+pub case-10 : paint (fresh 2) (line slant) 15 (replicate 15 0)
+    ≡ 0 ∷ 0 ∷ 0 ∷ 0 ∷ 0
+    ∷ 0 ∷ 0 ∷ 15 ∷ 0 ∷ 0
+    ∷ 0 ∷ 0 ∷ 0 ∷ 15 ∷ 15 ∷ []
+unfolding paint drawable line side someBelow recolourFrom
+case-10 = refl

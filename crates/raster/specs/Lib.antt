@@ -1,0 +1,11 @@
+-- What the contracts and theorems of raster cite.
+-- What a reader has to believe:
+pub mod Shapes
+pub mod Frame
+pub mod Paint
+pub mod Line
+pub mod Stores
+-- What only private functions promise:
+pub mod Moved
+pub mod Rects
+pub mod Traces

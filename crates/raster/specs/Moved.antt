@@ -1,0 +1,26 @@
+-- Coordinates moved up by 65,536, so that they are natural numbers: names that end in B speak of such.
+use mathlib.Core.Bool.{Bool, _&&_}
+use Prim.Native.Nat.{ℕ, _+_, _-_, min, max}
+use lib.IntN.{ℤ, pos, negsuc}
+use lib.Dec.{eqb}
+use Rattle.raster.specs.declared.dots.Dot.{Dot}
+use Rattle.raster.specs.declared.moved.Spot.{Spot}
+
+-- z + 65,536
+abbrev pub bias : ℤ → ℕ
+bias (pos n) = n + 65536
+bias (negsuc n) = 65535 - n
+
+abbrev pub spotOf : Dot → Spot
+spotOf d = record { x = bias (d .x); y = bias (d .y) }
+
+-- the pixel in column i of row j is the dot p
+abbrev pub dotB : Spot → ℕ → ℕ → Bool
+dotB p i j = eqb (p .x) (i + 65536) && eqb (p .y) (j + 65536)
+
+abbrev pub gapB : ℕ → ℕ → ℕ
+gapB a b = (b - a) + (a - b)
+
+-- k from a toward b, where k is at most their gap
+abbrev pub towardB : ℕ → ℕ → ℕ → ℕ
+towardB a b k = min (a + k) (max b (a - k))

@@ -1,0 +1,30 @@
+-- Shapes: a shape says of each point whether it is one of its dots.
+use mathlib.Core.Bool.{Bool, true, false, _&&_, _||_}
+use Prim.Native.Nat.{ℕ, zero, suc}
+use lib.IntN.{ℤ, pos, negsuc}
+use lib.Dec.{eqb}
+use Rattle.raster.specs.declared.dots.Dot.{Dot}
+
+-- column x, row y; (0, 0) is the top left
+abbrev pub Shape : Type 0
+Shape = ℤ → ℤ → Bool
+
+-- two whole numbers are the same
+abbrev pub eqZ : ℤ → ℤ → Bool
+eqZ (pos a) (pos b) = eqb a b
+eqZ (pos a) (negsuc b) = false
+eqZ (negsuc a) (pos b) = false
+eqZ (negsuc a) (negsuc b) = eqb a b
+
+-- the one dot d
+abbrev pub dot : Dot → Shape
+dot d = λ x y. eqZ (d .x) x && eqZ (d .y) y
+
+-- every point
+abbrev pub all : Shape
+all = λ x y. true
+
+-- one of p 0, p 1, .., p (k - 1) holds
+unfoldable pub someBelow : ℕ → (ℕ → Bool) → Bool
+someBelow zero p = false
+someBelow (suc k) p = someBelow k p || p k

@@ -1,0 +1,7 @@
+// Which dots are painted: a dot, a line and a fill on a lent screen, within a frame.
+pub mod frame; // screen, pane and clip window
+pub mod dots; // one dot
+pub mod line; // a line's dots
+pub mod fill; // every drawable dot
+mod moved; // coordinates as unsigned numbers
+mod rect; // the drawable columns and rows

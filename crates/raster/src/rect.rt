@@ -1,0 +1,121 @@
+// Rectangles of points that are moved up: the drawable points, and a dot painted within a rectangle.
+use crate::frame::Frame;
+use crate::frame::Pane;
+use crate::frame::Window;
+use crate::moved::Spot;
+use crate::moved::biased;
+use crate::moved::larger;
+use crate::moved::smaller;
+ghost use mathlib.Core.Path.{_≡_};
+ghost use mathlib.Core.Bool.{_&&_};
+ghost use Prim.Native.Nat.{_<_};
+ghost use lib.ListN.{set};
+ghost use Rattle.raster.specs.Frame.{Coord, Sane};
+ghost use Rattle.raster.specs.Moved.{dotB};
+ghost use Rattle.raster.specs.Rects.{pixels, byteB, insideB, inRect, paneRect, windowRect, overlapOf, rectOf, Room, Seen};
+
+// Columns l to r of rows t to b, both ends inside: none where l is above r, or t above b.
+pub struct Rect {
+    pub l: u32,
+    pub t: u32,
+    pub r: u32,
+    pub b: u32,
+}
+
+fn pane_rect(p: Pane) -> Rect
+    requires { ⌜ (p .left < 2048) × (p .top < 2048) × (p .right < 2048) × (p .bottom < 2048) ⌝ }
+    ensures { λ r. ⌜ r ≡ paneRect p ⌝ }
+{
+    Rect {
+        l: p.left + 65536,
+        t: p.top + 65536,
+        r: p.right + 65536,
+        b: p.bottom + 65536,
+    }
+}
+
+fn window_rect(w: Window) -> Rect
+    requires { ⌜ Coord (w .x0) × Coord (w .y0) × Coord (w .x1) × Coord (w .y1) ⌝ }
+    ensures { λ r. ⌜ r ≡ windowRect w ⌝ }
+{
+    Rect {
+        l: biased(w.x0),
+        t: biased(w.y0),
+        r: biased(w.x1),
+        b: biased(w.y1),
+    }
+}
+
+// The points of both.
+fn overlap(a: Rect, b: Rect) -> Rect
+    ensures { λ r. ⌜ r ≡ overlapOf a b ⌝ }
+{
+    Rect {
+        l: larger(a.l, b.l),
+        t: larger(a.t, b.t),
+        r: smaller(a.r, b.r),
+        b: smaller(a.b, b.b),
+    }
+}
+
+// The drawable points.
+pub fn rect_of(f: Frame) -> Rect
+    requires { ⌜ Sane f ⌝ }
+    ensures { λ r. ⌜ r ≡ rectOf f ⌝ }
+{
+    let p = pane_rect(f.bounds.pane);
+    let w = window_rect(f.window);
+    if f.mode == 0 {
+        return p;
+    }
+    overlap(p, w)
+}
+
+fn inside(r: Rect, p: Spot) -> bool
+    ensures { λ b. ⌜ b ≡ insideB r (p .x) (p .y) ⌝ }
+{
+    if p.x < r.l {
+        return false;
+    }
+    if r.r < p.x {
+        return false;
+    }
+    if p.y < r.t {
+        return false;
+    }
+    p.y <= r.b
+}
+
+// The dot is drawable: what a single dot asks in place of the rectangle.
+pub fn visible(f: Frame, p: Spot) -> bool
+    requires { ⌜ Sane f ⌝ }
+    ensures { λ b. ⌜ b ≡ insideB (rectOf f) (p .x) (p .y) ⌝ }
+{
+    if !inside(pane_rect(f.bounds.pane), p) {
+        return false;
+    }
+    if f.mode == 0 {
+        return true;
+    }
+    inside(window_rect(f.window), p)
+}
+
+// Paints the dot, which lies within the screen of w columns.
+pub fn store(screen: &mut [u8], w: u32, p: Spot, c: u8)
+    requires { ⌜ Seen w p (now screen) ⌝ }
+    ensures { λ _. ⌜ now (screen .exit) ≡ set (now (screen .entry)) (byteB w p) c ⌝ }
+{
+    let at = ((p.y - 65536) * w + (p.x - 65536)) as usize;
+    screen[at] = c;
+}
+
+// Paints the dot where it is within r, which lies within the screen of w columns.
+pub fn plot_in(screen: &mut [u8], w: u32, r: Rect, p: Spot, c: u8)
+    requires { ⌜ Room w r (now screen) ⌝ }
+    ensures { λ _.
+        ⌜ now (screen .exit) ≡ pixels w (λ i j. inRect r i j && dotB p i j) c (now (screen .entry)) ⌝ }
+{
+    if inside(r, p) {
+        store(screen, w, p, c);
+    }
+}
