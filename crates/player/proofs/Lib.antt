@@ -1,0 +1,11 @@
+-- The laws that proofs cite, here and in the crates above.
+pub mod Runs
+pub mod Unsteered
+pub mod Budgets
+pub mod Panes
+pub mod Mixes
+pub mod Promises
+pub mod Drawings
+pub mod Hosts
+pub mod Toys
+pub mod Strays

@@ -1,0 +1,52 @@
+-- What demand 3 is shown from is needed, each part: without it a mixing disturbs a side.
+use mathlib.Core.Path.{_≡_, ap}
+use mathlib.Core.List.{List, [], _∷_}
+use Prim.Native.Nat.{ℕ}
+use native.Mathlib.Omega.{arith}
+use Rattle.raster.specs.Frame.{drawable}
+use Rattle.raster.specs.Paint.{recolourFrom, paint}
+use Rattle.player.specs.Reply.{Got}
+use Rattle.player.specs.Run.{runs}
+use Rattle.player.specs.Mixing.{Callable, alone, one, two, Mix, mixed}
+use Rattle.player.specs.Undisturbed.{Undisturbed}
+use Rattle.player.specs.Hosted.{answered, callable}
+use Rattle.player.specs.Toy.{Env, fresh, west, east, toys}
+use Rattle.player.specs.Stray.{spills, widens, peeks, loses}
+use Rattle.player.proofs.Toys.{brushes, pens, ask, blank}
+
+abbrev Disturbed : (A B : Callable) → Mix A B → A .Env → B .Env → Type 0
+Disturbed A B m a b = Undisturbed A B m a b blank (mixed A B m a b blank) → ⊥
+
+-- panes that share column 2: the pen's dot is seen in the brush's pane
+pub touching : Disturbed brushes pens (one (ask (7 ∷ []) 1) ∷ two (ask (2 ∷ []) 1) ∷ []) (fresh 5 3 0 2) east
+unfolding mixed alone answered runs paint drawable recolourFrom
+touching u = let z : _≡_ {A = ℕ} 9 7 = u .pane₁ .bytes 12 (omega arith) tt in omega arith
+
+-- panes with no pixel in common, on 15 bytes that are 5 by 3 for one side and 3 by 5 for the other
+pub reshaped : Disturbed brushes brushes (two (ask (7 ∷ []) 1) ∷ []) west (fresh 3 5 2 2)
+unfolding mixed alone answered runs paint drawable recolourFrom
+reshaped u = let z : _≡_ {A = ℕ} 7 0 = u .pane₁ .bytes 5 (omega arith) tt in omega arith
+
+-- a step that paints by another frame
+pub spilt : Disturbed (callable (toys spills)) pens (two (ask (2 ∷ []) 1) ∷ one (ask (7 ∷ []) 1) ∷ []) west east
+unfolding mixed alone answered runs paint drawable recolourFrom
+spilt u = let z : _≡_ {A = ℕ} 7 9 = u .pane₂ .bytes 12 (omega arith) tt in omega arith
+
+-- a step that widens its pane, and in the next call a step that paints in it
+pub widened : Disturbed (callable (toys widens)) pens (two (ask (2 ∷ []) 1) ∷ one (ask (7 ∷ 7 ∷ []) 1) ∷ one (ask (7 ∷ 7 ∷ []) 1) ∷ []) west east
+unfolding mixed alone answered runs paint drawable recolourFrom
+widened u = let z : _≡_ {A = ℕ} 7 9 = u .pane₂ .bytes 12 (omega arith) tt in omega arith
+
+-- a call that looks at the other pane
+pub peeked : Disturbed peeks pens (two (ask (2 ∷ []) 1) ∷ one 0 ∷ []) west east
+unfolding mixed alone answered runs paint drawable recolourFrom
+peeked u = let z : _≡_ {A = ℕ} 9 0 = ap heard (u .got₁) in omega arith
+  where
+    heard : List (Got Env ℕ) → ℕ
+    heard [] = 0
+    heard (g ∷ gs) = g .told
+
+-- a call that loses bytes
+pub lost : Disturbed loses brushes (one 0 ∷ []) east west
+unfolding mixed
+lost u = let z : _≡_ {A = ℕ} 14 15 = u .long in omega arith

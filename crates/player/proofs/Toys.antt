@@ -1,0 +1,90 @@
+-- Demand 3 for the brush and the pen, and one mixing of their calls worked out.
+use mathlib.Core.Path.{_≡_, refl}
+use mathlib.Core.Bool.{Bool, true, false, cond}
+use mathlib.Core.List.{List, [], _∷_}
+use Prim.Native.Nat.{ℕ, zero, suc}
+use native.Mathlib.Omega.{arith}
+use lib.Dec.{leb}
+use lib.ListN.{length, getD, replicate}
+use Rattle.raster.specs.declared.frame.Bounds.{Bounds}
+use Rattle.raster.specs.Frame.{drawable}
+use Rattle.raster.specs.Paint.{recolourFrom, paint}
+use Rattle.player.specs.Reply.{Got}
+use Rattle.player.specs.Player.{verdict, Outcome, refused}
+use Rattle.player.specs.Run.{Told, runs}
+use Rattle.player.specs.Pane.{Apart}
+use Rattle.player.specs.Mixing.{Callable, one, two, Mix, ones, twos, Mixed, mixed}
+use Rattle.player.specs.Undisturbed.{Undisturbed}
+use Rattle.player.specs.Hosted.{Request, answered, callable}
+use Rattle.player.specs.Keeps.{Stays, Keeps}
+use Rattle.player.specs.Toy.{Env, west, east, brush, pen, toy, toys}
+use Rattle.player.proofs.Panes.{beside}
+use Rattle.player.proofs.Hosts
+
+abbrev pub brushes : Callable
+brushes = callable (toys brush)
+
+abbrev pub pens : Callable
+pens = callable (toys pen)
+
+-- ---- both keep to their panes
+abbrev bounds-of : Env → Bounds
+bounds-of e = e .frame .bounds
+
+toy-keeps : (word : ℕ → Env → Outcome Env) → ((n : ℕ) (e : Env) → Stays bounds-of e (word n e)) → (w : List ℕ) → Keeps bounds-of (toy word w)
+toy-keeps word h w =
+    record { steps = λ e. stays (leb (length w) (e .at)) e (word (getD w (e .at) 0) e) (h (getD w (e .at) 0) e); stops = λ v e. refl }
+  where
+    stays : (b : Bool) (e : Env) (o : Outcome Env) → Stays bounds-of e o → Stays bounds-of e (cond b (refused (verdict 20)) o)
+    stays true e o h = tt
+    stays false e o h = h
+
+brush-stays : (n : ℕ) (e : Env) → Stays bounds-of e (brush n e)
+brush-stays zero e = (refl, refl)
+brush-stays (suc zero) e = (refl, refl)
+brush-stays (suc (suc n)) e = (refl, refl)
+
+pen-stays : (n : ℕ) (e : Env) → Stays bounds-of e (pen n e)
+pen-stays n e = (refl, refl)
+
+-- ---- the one pane ends at column 1, the other begins at column 2
+apart : Apart (west .frame .bounds) (east .frame .bounds)
+apart = beside (west .frame .bounds) (east .frame .bounds) refl (omega arith)
+
+pub undisturbed : (s : List ℕ) (m : Mix brushes pens) → Undisturbed brushes pens m west east s (mixed brushes pens m west east s)
+undisturbed s m = Hosts.undisturbed (toys brush) (toys pen) (toy-keeps brush brush-stays) (toy-keeps pen pen-stays) west east apart s m
+
+pub any-order : (s : List ℕ) (m n : Mix brushes pens) → ones m ≡ ones n → twos m ≡ twos n → mixed brushes pens m west east s ≡ mixed brushes pens n west east s
+any-order s m n p q = Hosts.any-order (toys brush) (toys pen) (toy-keeps brush brush-stays) (toy-keeps pen pen-stays) west east apart s m n p q
+
+-- ---- one mixing
+abbrev pub ask : List ℕ → ℕ → Request (List ℕ)
+ask w n = record { list = w; budget = n }
+
+abbrev pub blank : List ℕ
+blank = replicate 15 0
+
+-- the brush fills with 7 and is out of budget; the pen sets three dots, of which one lies in its pane, and does not see the end of its list behind its
+-- budget, then sees it, then is refused at the door, then answers as it was stopped; the brush goes on, and ends
+abbrev calls : Mix brushes pens
+calls =
+    one (ask (7 ∷ 1 ∷ 8 ∷ 0 ∷ []) 1)
+    ∷ two (ask (0 ∷ 1 ∷ 2 ∷ []) 3)
+    ∷ two (ask (0 ∷ 1 ∷ 2 ∷ []) 9)
+    ∷ two (ask [] 1000001)
+    ∷ two (ask [] 1)
+    ∷ one (ask (7 ∷ 1 ∷ 8 ∷ 0 ∷ []) 9)
+    ∷ []
+
+-- number and steps of each call
+abbrev tolds : List (Got Env Told) → List (ℕ × ℕ)
+tolds [] = []
+tolds (g ∷ gs) = (g .told .verdict .number, g .told .steps) ∷ tolds gs
+
+abbrev shown : Mixed brushes pens → List (ℕ × ℕ) × List (ℕ × ℕ) × List ℕ
+shown x = (tolds (x .got₁), tolds (x .got₂), x .screen)
+
+pub played : shown (mixed brushes pens calls west east blank)
+    ≡ ((1, 1) ∷ (0, 3) ∷ [], (1, 3) ∷ (20, 0) ∷ (14, 0) ∷ (20, 0) ∷ [], 8 ∷ 8 ∷ 0 ∷ 0 ∷ 0 ∷ 8 ∷ 8 ∷ 0 ∷ 0 ∷ 0 ∷ 8 ∷ 8 ∷ 9 ∷ 0 ∷ 0 ∷ [])
+unfolding mixed answered runs paint drawable recolourFrom
+played = refl

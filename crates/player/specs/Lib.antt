@@ -1,0 +1,15 @@
+-- What any player is: Painting to Run. Demand 3 for any two sides: Pane to Promised. Who obeys its laws: Drawing to Keeps. Small players: Toy, Stray.
+pub mod Painting
+pub mod Player
+pub mod Reply
+pub mod Run
+pub mod Pane
+pub mod Mixing
+pub mod Obeys
+pub mod Undisturbed
+pub mod Promised
+pub mod Drawing
+pub mod Hosted
+pub mod Keeps
+pub mod Toy
+pub mod Stray

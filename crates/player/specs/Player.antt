@@ -1,0 +1,25 @@
+-- What any player is.
+use Prim.Native.Nat.{ℕ}
+use mathlib.Core.Path.{_≡_}
+use Rattle.player.specs.declared.Verdict.{Verdict}
+use Rattle.player.specs.declared.State.{State}
+use Rattle.player.specs.declared.State.the-variants.{Stopped}
+use Rattle.player.specs.Painting.{Painting}
+
+abbrev pub verdict : ℕ → Verdict
+verdict n = record { number = n }
+
+-- what becomes of an opcode: it is carried out, with the environment after it and what it paints, or refused
+pub data Outcome (E : Type 0) : Type 0 where
+  done : E → Painting → Outcome E
+  refused : Verdict → Outcome E
+
+-- a player over environments E: the state of one, the same one stopped by a refusal, and what becomes of its next opcode
+pub record Player (E : Type 0) : Type 0 where
+  pub state : E → State
+  pub stop : Verdict → E → E
+  pub step : E → Outcome E
+
+-- an environment that a refusal stopped is in the state that says so
+abbrev pub Stops : {E : Type 0} → Player E → Type 0
+Stops {E} P = (v : Verdict) (e : E) → P .state (P .stop v e) ≡ Stopped v
