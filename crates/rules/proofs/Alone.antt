@@ -1,0 +1,103 @@
+-- No opcode changes size or pane, and each paints inside its frame: so demand 3 holds of the rules.
+use Prim.Native.Nat.{ℕ}
+use mathlib.Core.Path.{_≡_, refl}
+use mathlib.Core.Bool.{Bool, true, false, cond}
+use mathlib.Core.List.{List}
+use lib.ListN.{length}
+use lib.Dec.{leb}
+use Rattle.player.specs.Player.{Outcome}
+use Rattle.player.specs.Pane.{Apart}
+use Rattle.player.specs.Mixing.{Mix, ones, twos, mixed}
+use Rattle.player.specs.Undisturbed.{Undisturbed}
+use Rattle.player.specs.Hosted.{callable}
+use Rattle.player.specs.Keeps.{Stays, Keeps}
+use Rattle.player.proofs.Hosts
+use Rattle.rules.specs.Types.{Target, At, Refused, Bounds, Operands, Op, Noop, End, Load, Add, And, Or, Multiply, Divide, Remainder, Increment, Decrement, Compare, Jump, JumpBy, Call, CallBy, Return, ClipMode, ClipWindow, Colour, MoveTo, MoveBy, Pixel, PixelColour, Line, LineTo, LineBy, Clear, Form, Unknown, Known}
+use Rattle.rules.specs.Table.{formOf}
+use Rattle.rules.specs.Operands.{at}
+use Rattle.rules.specs.Environment.{Env, pushed}
+use Rattle.rules.specs.Opcodes.{Rule, rule, taken, absolute, relative, reach}
+use Rattle.rules.specs.Step.{check, unknown, cut, misnamed, ruled, carried, judged, step, afgis}
+use Rattle.rules.specs.Door.{machine}
+
+abbrev bounds : Env → Bounds
+bounds e = e .bounds
+
+-- ---- size and pane after each op
+reached : (t : Target) (e : Env) → reach t e .bounds ≡ e .bounds
+reached (At i) e = refl
+reached Refused e = refl
+
+jumped : (taken : Bool) (t : Target) (e : Env) → cond taken (reach t e) e .bounds ≡ e .bounds
+jumped true t e = reached t e
+jumped false t e = refl
+
+rule-keeps : (op : Op) (o : Operands) (n : ℕ) (e : Env) → rule op o n e .env .bounds ≡ e .bounds
+rule-keeps Noop o n e = refl
+rule-keeps End o n e = refl
+rule-keeps Load o n e = refl
+rule-keeps Add o n e = refl
+rule-keeps And o n e = refl
+rule-keeps Or o n e = refl
+rule-keeps Multiply o n e = refl
+rule-keeps Divide o n e = refl
+rule-keeps Remainder o n e = refl
+rule-keeps Increment o n e = refl
+rule-keeps Decrement o n e = refl
+rule-keeps Compare o n e = refl
+rule-keeps Jump o n e = jumped (taken (o .a) e) (absolute (o .b) n) e
+rule-keeps JumpBy o n e = jumped (taken (o .a) e) (relative (o .b) e n) e
+rule-keeps Call o n e = reached (absolute (o .a) n) (pushed (e .counter) e)
+rule-keeps CallBy o n e = reached (relative (o .a) e n) (pushed (e .counter) e)
+rule-keeps Return o n e = refl
+rule-keeps ClipMode o n e = refl
+rule-keeps ClipWindow o n e = refl
+rule-keeps Colour o n e = refl
+rule-keeps MoveTo o n e = refl
+rule-keeps MoveBy o n e = refl
+rule-keeps Pixel o n e = refl
+rule-keeps PixelColour o n e = refl
+rule-keeps Line o n e = refl
+rule-keeps LineTo o n e = refl
+rule-keeps LineBy o n e = refl
+rule-keeps Clear o n e = refl
+
+ruled-keeps : (f : Form) (w : List ℕ) (e : Env) → ruled f w e .env .bounds ≡ e .bounds
+ruled-keeps Unknown w e = refl
+ruled-keeps (Known op s) w e = rule-keeps op _ _ _
+
+-- ---- a check refuses, and a refusal does nothing
+checked : (n : ℕ) (b : Bool) (e : Env) (x : Outcome Env) → Stays bounds e x → Stays bounds e (check n b x)
+checked n true e x h = tt
+checked n false e x h = h
+
+stays : (f : Form) (r : Rule) (w : List ℕ) (e : Env) → r .env .bounds ≡ e .bounds → Stays bounds e (judged f r w e)
+unfolding carried
+stays f r w e h =
+    checked 20 (leb (length w) (e .counter)) e _
+    (checked 21 (unknown f) e _
+    (checked 22 (cut f w (e .counter)) e _
+    (checked 23 (misnamed f w (e .counter)) e _
+    (checked 24 (r .breaks 24) e _
+    (checked 25 (r .breaks 25) e _
+    (checked 26 (r .breaks 26) e _
+    (checked 27 (r .breaks 27) e _
+    (checked 28 (r .breaks 28) e _
+    (checked 29 (r .breaks 29) e _ (refl, h))))))))))
+
+pub keeps : (w : List ℕ) → Keeps bounds (afgis w)
+unfolding step
+keeps w = record { steps = λ e. at-form (formOf (at w (e .counter))) e; stops = λ v e. refl }
+  where
+    at-form : (f : Form) (e : Env) → Stays bounds e (judged f (ruled f w e) w e)
+    at-form f e = stays f (ruled f w e) w e (ruled-keeps f w e)
+
+-- ---- demand 3
+module _ (a b : Env) (apart : Apart (a .bounds) (b .bounds)) (s : List ℕ) where
+  pub undisturbed : (m : Mix (callable machine) (callable machine))
+      → Undisturbed (callable machine) (callable machine) m a b s (mixed (callable machine) (callable machine) m a b s)
+  undisturbed m = Hosts.undisturbed machine machine keeps keeps a b apart s m
+
+  pub any-order : (m n : Mix (callable machine) (callable machine)) → ones m ≡ ones n → twos m ≡ twos n
+      → mixed (callable machine) (callable machine) m a b s ≡ mixed (callable machine) (callable machine) n a b s
+  any-order m n p q = Hosts.any-order machine machine keeps keeps a b apart s m n p q

@@ -1,0 +1,98 @@
+-- No second answer meets the promise: number, every field of the environment, every byte of the screen, steps. Only what lies past the
+-- last return stacked is free, which is no part of the environment.
+use Prim.Native.Nat.{ℕ}
+use mathlib.Core.Path.{_≡_, refl, sym, ap, _∙_}
+use mathlib.Core.Bool.{Bool, true, false, cond}
+use mathlib.Core.List.{List}
+use lib.ListN.{length}
+use lib.Dec.{eqb}
+use borrow.Author.Tests.{eqb-true}
+use Rattle.player.specs.Player.{verdict}
+use Rattle.player.specs.Run.{Answer, answer}
+use Rattle.player.specs.Hosted.{answered}
+use Rattle.rules.specs.Types.{Bounds, Running, Ended, Stopped}
+use Rattle.rules.specs.declared.environment.Env as Held
+use Rattle.rules.specs.declared.answer.Answer as Told
+use Rattle.rules.specs.declared.answer.Made as Made
+use Rattle.rules.specs.Environment.{Env, held, stateOf, byteOf, firsts}
+use Rattle.rules.specs.Door.{door, whole, Promise}
+use Rattle.rules.specs.Fresh.{zeros}
+use Rattle.rules.specs.Fresh as Fresh
+use Rattle.rules.proofs.StackLaws.{length-firsts}
+
+-- a state has one byte
+pub byte-state : (b : ℕ) → byteOf (stateOf b) ≡ b
+unfolding stateOf
+byte-state b = first (eqb b 0) refl
+  where
+    second : (t : Bool) → eqb b 1 ≡ t → byteOf (cond t Ended (Stopped (verdict b))) ≡ b
+    second true h = sym (eqb-true b 1 h)
+    second false h = refl
+
+    first : (t : Bool) → eqb b 0 ≡ t → byteOf (cond t Running (cond (eqb b 1) Ended (Stopped (verdict b)))) ≡ b
+    first true h = sym (eqb-true b 0 h)
+    first false h = second (eqb b 1) refl
+
+-- all that the program's environment holds, but for what lies past the last return stacked
+pub record Alike (a b : Held.Env) : Type 0 where
+  pub bounds : a .bounds ≡ b .bounds
+  pub registers : a .registers ≡ b .registers
+  pub variables : a .variables ≡ b .variables
+  pub stack : firsts (a .registers .depth) (a .stack) ≡ firsts (b .registers .depth) (b .stack)
+
+-- environments that stand for the same are alike
+pub alike : (a b : Held.Env) → held a ≡ held b → Alike a b
+alike a b h =
+    record {
+      bounds = ap (λ (e : Env). e .bounds) h;
+      registers = λ i. record {
+        position = h i .position;
+        window = h i .window;
+        mode = h i .mode;
+        first = h i .first;
+        second = h i .second;
+        counter = record { 0 = h i .counter };
+        depth = depth i;
+        colour = h i .colour;
+        state = state i;
+      };
+      variables = ap (λ (e : Env). e .variables) h;
+      stack = ap (λ (e : Env). e .stack) h;
+    }
+  where
+    depth : a .registers .depth ≡ b .registers .depth
+    depth =
+        sym (length-firsts (a .registers .depth) (a .stack))
+        ∙ (ap (λ (e : Env). length (e .stack)) h ∙ length-firsts (b .registers .depth) (b .stack))
+
+    state : a .registers .state ≡ b .registers .state
+    state = sym (byte-state (a .registers .state)) ∙ (ap (λ (e : Env). byteOf (e .state)) h ∙ byte-state (b .registers .state))
+
+-- two answers, with the screens that they leave, are the same
+pub record Agree (a b : Told.Answer) (s t : List ℕ) : Type 0 where
+  pub number : a .number ≡ b .number
+  pub env : Alike (a .env) (b .env)
+  pub screen : s ≡ t
+  pub steps : a .steps ≡ b .steps
+
+pub unique : (w s₀ : List ℕ) (e : Held.Env) (budget : ℕ) (a b : Told.Answer) (s t : List ℕ)
+    → Promise w s₀ e budget a s → Promise w s₀ e budget b t → Agree a b s t
+unique w s₀ e budget a b s t p q =
+    let r = p ∙ sym q in
+    record {
+      number = ap (λ (x : Answer Env). x .verdict .number) r;
+      env = alike (a .env) (b .env) (ap (λ (x : Answer Env). x .env) r);
+      screen = ap (λ (x : Answer Env). x .screen) r;
+      steps = ap (λ (x : Answer Env). x .steps) r;
+    }
+
+-- and so are two fresh environments made from one size and pane
+pub unique-made : (b : Bounds) (m n : Made.Made) → Fresh.Promise b m → Fresh.Promise b n → (m .number ≡ n .number) × Alike (m .env) (n .env)
+unique-made b m n p q =
+    let r = p ∙ sym q in
+    (ap (λ (x : Fresh.Made). x .number) r, alike (m .env) (n .env) (ap (λ (x : Fresh.Made). x .env) r))
+
+-- the environment of zeros: every run refuses it with 10
+pub zeros-10 : (w s : List ℕ) (budget : ℕ) → whole w s zeros budget ≡ answer (verdict 10) zeros s 0
+unfolding answered door
+zeros-10 w s budget = refl

@@ -1,0 +1,139 @@
+-- Document 01, 'Cases, whole answers': the starred cases with their variants, as one table of whole answers; and some edges.
+use Prim.Native.Nat.{ℕ, _-_, _^_}
+use mathlib.Core.Path.{_≡_, refl}
+use mathlib.Core.List.{List, [], _∷_, map}
+use lib.IntN.{pos}
+use lib.ListN.{replicate}
+use Rattle.numbers.specs.Number.{signed32, signed16, low32, sum32, quotient32, remainder32}
+use Rattle.numbers.specs.Coordinate.{inWord}
+use Rattle.numbers.specs.Place.{wordOf, indexOf}
+use Rattle.raster.specs.Shapes.{someBelow}
+use Rattle.raster.specs.Frame.{drawable}
+use Rattle.raster.specs.Paint.{recolourFrom, paint}
+use Rattle.raster.specs.Line.{line, side}
+use Rattle.player.specs.Player.{verdict}
+use Rattle.player.specs.Run.{Answer, answer, runs}
+use Rattle.player.specs.Hosted.{answered}
+use Rattle.rules.specs.Types.{Bounds, Running, Ended, Stopped}
+use Rattle.rules.specs.Table.{formOf}
+use Rattle.rules.specs.Environment.{Env, env, put, clipped, windowed, goto, stacked, turned}
+use Rattle.rules.specs.Step.{carried, step}
+use Rattle.rules.specs.Door.{door, whole}
+use Rattle.rules.specs.Fresh.{fresh}
+
+-- a screen of 5 x 3, its pane from column x on
+abbrev pub bounds : ℕ → Bounds
+bounds x = record { width = 5; height = 3; pane = record { left = x; top = 0; right = 4; bottom = 2 } }
+
+abbrev pub e₀ : Env
+e₀ = fresh (bounds 0)
+
+abbrev pub e₂ : Env
+e₂ = fresh (bounds 2)
+
+abbrev pub blank : List ℕ
+blank = replicate 15 0
+
+-- ---- what is wanted: stopped with a number, ended at a counter, and a variable's bits where its value is -n
+abbrev pub stopped : ℕ → Env → Env
+stopped n e = turned (Stopped (verdict n)) e
+
+abbrev pub ended : ℕ → Env → Env
+ended n e = goto n (turned Ended e)
+
+abbrev pub minus : ℕ → ℕ
+minus n = 2 ^ 32 - n
+
+-- ---- lists and screens of more than one line
+
+-- V0 = -7 and V1 = 2, and V0 by V1 in an opcode
+abbrev pub sevenByTwo : ℕ → List ℕ
+sevenByTwo op = 0x0065 ∷ 0xFFF9 ∷ 0x0000 ∷ 0x0065 ∷ 0x0002 ∷ 0x0001 ∷ op ∷ 0x0001 ∷ 0x0000 ∷ 0x0001 ∷ []
+
+-- a line from (0, 0) to (4, 2), on the whole screen and in the pane from column 2 on
+abbrev pub slope : List ℕ
+slope = 0x0074 ∷ 0x0000 ∷ 0x0000 ∷ 0x0000 ∷ 0x0004 ∷ 0x0002 ∷ 0x0001 ∷ []
+
+abbrev pub sloped : List ℕ
+sloped =
+    15 ∷ 0 ∷ 0 ∷ 0 ∷ 0 ∷
+    0 ∷ 15 ∷ 15 ∷ 0 ∷ 0 ∷
+    0 ∷ 0 ∷ 0 ∷ 15 ∷ 15 ∷ []
+
+abbrev pub slopedIn : List ℕ
+slopedIn =
+    0 ∷ 0 ∷ 0 ∷ 0 ∷ 0 ∷
+    0 ∷ 0 ∷ 15 ∷ 0 ∷ 0 ∷
+    0 ∷ 0 ∷ 0 ∷ 15 ∷ 15 ∷ []
+
+-- ---- the cases: the list, the number, the environment and the steps; from e₀ with budget 100, and no dot, unless said
+pub record Case : Type 0 where
+  pub words : List ℕ
+  pub env : Env
+  pub budget : ℕ
+  pub want : Answer Env
+
+abbrev pub case : List ℕ → ℕ → Env → ℕ → Case
+case w n e k = record { words = w; env = e₀; budget = 100; want = answer (verdict n) e blank k }
+
+abbrev pub within : ℕ → Case → Case
+within b c = record { words = c.words; env = c.env; budget = b; want = c.want }
+
+abbrev pub shows : Env → List ℕ → Case → Case
+shows e s c = record { words = c.words; env = e; budget = c.budget; want = answer (c .want .verdict) (c .want .env) s (c .want .steps) }
+
+abbrev pub cases : List Case
+cases =
+    case [] 20 (stopped 20 e₀) 0 ∷  -- 1
+    case (0x0001 ∷ []) 0 (ended 1 e₀) 1 ∷  -- 2
+    within 0 (case (0x0001 ∷ []) 1 e₀ 0) ∷
+    case (0x0066 ∷ 0xFFFF ∷ 0x7FFF ∷ 0x0000 ∷ 0x005D ∷ 0x0000 ∷ 0x0001 ∷ []) 0 (ended 7 (put 0 (minus 2147483648) e₀)) 3 ∷  -- 3
+    case (0x0066 ∷ 0x0000 ∷ 0x0001 ∷ 0x0005 ∷ 0x0083 ∷ 0x0004 ∷ 0x0001 ∷ []) 25 (stopped 25 (goto 4 (put 5 65536 e₀))) 1 ∷  -- 4
+    case (sevenByTwo 0x0045) 0 (ended 10 (put 0 (minus 3) (put 1 2 e₀))) 4 ∷  -- 5
+    case (sevenByTwo 0x0081) 0 (ended 10 (put 0 (minus 1) (put 1 2 e₀))) 4 ∷
+    case (0x0045 ∷ 0x0001 ∷ 0x0000 ∷ []) 26 (stopped 26 e₀) 0 ∷  -- 6
+    case (0x0003 ∷ 0x0040 ∷ 0x0000 ∷ []) 23 (stopped 23 e₀) 0 ∷  -- 7
+    case (0x0003 ∷ 0x003F ∷ 0x0000 ∷ []) 20 (stopped 20 (goto 3 e₀)) 1 ∷
+    case (0x0066 ∷ 0x0000 ∷ []) 22 (stopped 22 e₀) 0 ∷  -- 8
+    shows e₀ sloped (case slope 0 (ended 7 e₀) 2) ∷  -- 9
+    shows e₂ slopedIn (case slope 0 (ended 7 e₂) 2) ∷  -- 10
+    case (0x010E ∷ 0xFFFE ∷ []) 28 (stopped 28 (stacked (replicate 16 2) e₀)) 16 ∷  -- 11
+    within 16 (case (0x010E ∷ 0xFFFE ∷ []) 1 (stacked (replicate 16 2) e₀) 16) ∷
+    case (0x000E ∷ 0x0008 ∷ 0x0000 ∷ []) 27 (stopped 27 e₀) 0 ∷  -- 12
+    []
+
+-- ---- beside document 01's list: where an order or an edge shows
+
+-- the window from (1, 0) to (3, 1), cleared to 7 in mode 1: both corners are inside
+abbrev pub cleared : List ℕ
+cleared =
+    0x0018 ∷ 0x0001 ∷ 0x0000 ∷ 0x0003 ∷ 0x0001 ∷ 0x0016 ∷ 0x0001 ∷ 0x0188 ∷ 0x0007 ∷ 0x0000 ∷ 0x0000 ∷ 0x0001 ∷ []
+
+-- V0 = 1 and V1 = 65,536, and a line of that type from that column: 24 comes before 25
+abbrev pub wrongTwice : List ℕ
+wrongTwice = 0x0065 ∷ 0x0001 ∷ 0x0000 ∷ 0x0066 ∷ 0x0000 ∷ 0x0001 ∷ 0x0001 ∷ 0x0075 ∷ 0x0000 ∷ []
+
+abbrev pub edges : List Case
+edges =
+    shows e₀
+    (0 ∷ 7 ∷ 7 ∷ 7 ∷ 0 ∷
+    0 ∷ 7 ∷ 7 ∷ 7 ∷ 0 ∷
+    0 ∷ 0 ∷ 0 ∷ 0 ∷ 0 ∷ [])
+    (case cleared 0 (ended 12 (clipped 1 (windowed (record { x0 = pos 1; y0 = pos 0; x1 = pos 3; y1 = pos 1 }) e₀))) 4) ∷
+    case wrongTwice 24 (stopped 24 (goto 7 (put 0 1 (put 1 65536 e₀)))) 2 ∷
+    []
+
+abbrev pub played : Case → Answer Env
+played c = whole c.words blank c.env c.budget
+
+pub starred : map played cases ≡ map (λ (c : Case). c.want) cases
+unfolding signed32 signed16 low32 sum32 quotient32 remainder32 inWord wordOf indexOf recolourFrom someBelow drawable paint line side formOf carried step door answered runs
+starred = refl
+
+pub edged : map played edges ≡ map (λ (c : Case). c.want) edges
+unfolding signed32 signed16 low32 inWord recolourFrom someBelow drawable paint line formOf carried step door answered runs
+edged = refl
+
+-- the fresh environment, field by field
+pub fresh-fields : e₀ ≡ env (bounds 0) (replicate 64 0) (record { x = pos 0; y = pos 0 }) 15 0 (record { x0 = pos 0; y0 = pos 0; x1 = pos 4; y1 = pos 2 }) 0 0 0 [] Running
+fresh-fields = refl

@@ -1,0 +1,92 @@
+-- Document 01, the ranges of 'What a call is given' and 10 to 14 of 'Numbers that come back': the door, and the whole answer of a call.
+use Prim.Native.Nat.{ℕ, _*_}
+use mathlib.Core.Path.{_≡_}
+use mathlib.Core.Bool.{Bool, true, false, _&&_}
+use mathlib.Core.List.{List, [], _∷_}
+use lib.ListN.{length}
+use lib.Dec.{ltb, leb, eqb}
+use Rattle.numbers.specs.Coordinate.{inWord}
+use Rattle.player.specs.Player.{verdict}
+use Rattle.player.specs.Run.{Answer, answer}
+use Rattle.player.specs.Hosted.{Request, Hosted, answered}
+use Rattle.rules.specs.Types.{Bounds, Window, State, Running, Ended, Stopped}
+use Rattle.rules.specs.declared.environment.Env as Held
+use Rattle.rules.specs.declared.answer.Answer as Told
+use Rattle.rules.specs.Environment.{Env, held}
+use Rattle.rules.specs.Step.{afgis}
+
+-- ---- ranges
+
+-- lo to hi, both inside
+abbrev pub between : ℕ → ℕ → ℕ → Bool
+between lo hi n = leb lo n && leb n hi
+
+-- width and height, each 1 to 2,048
+abbrev pub sizeFits : Bounds → Bool
+sizeFits b = between 1 2048 b.width && between 1 2048 b.height
+
+-- both ends inside, not empty, within the screen
+abbrev pub paneFits : Bounds → Bool
+paneFits b =
+    leb (b .pane .left) (b .pane .right) && ltb (b .pane .right) b.width
+    && (leb (b .pane .top) (b .pane .bottom) && ltb (b .pane .bottom) b.height)
+
+-- four signed words
+abbrev pub windowFits : Window → Bool
+windowFits w = inWord w.x0 && inWord w.y0 && (inWord w.x1 && inWord w.y1)
+
+-- word indices, 0 to 65,536
+abbrev pub indices : List ℕ → Bool
+indices [] = true
+indices (n ∷ ns) = leb n 65536 && indices ns
+
+-- at most 16 stacked return indices
+abbrev pub stackFits : List ℕ → Bool
+stackFits st = leb (length st) 16 && indices st
+
+-- running, ended, or stopped with a number 20 to 29
+abbrev pub stateFits : State → Bool
+stateFits Running = true
+stateFits Ended = true
+stateFits (Stopped v) = between 20 29 v.number
+
+-- every other field; variables, compared values and colour are in range by their types
+abbrev pub fits : Env → Bool
+fits e =
+    paneFits e.bounds
+    && (inWord (e .position .x)
+    && (inWord (e .position .y)
+    && (leb e.mode 2
+    && (windowFits e.window
+    && (leb e.counter 65536
+    && (stackFits e.stack
+    && stateFits e.state))))))
+
+-- ---- the door
+abbrev pub unless : ℕ → Bool → ℕ → ℕ
+unless n true other = other
+unless n false other = n
+
+-- the lowest of 10 to 14 that applies, or 0, of a list and a budget, an environment, and the bytes of the screen counted
+unfoldable pub door : Request (List ℕ) → Env → ℕ → ℕ
+door q e bytes =
+    unless 10 (sizeFits e.bounds)
+    (unless 11 (eqb bytes (e .bounds .width * e .bounds .height))
+    (unless 12 (fits e)
+    (unless 13 (leb (length q.list) 65536)
+    (unless 14 (leb q.budget 1000000)
+    0))))
+
+-- ---- the whole answer of a call: refused at the door, all as it was, or run
+abbrev pub machine : Hosted
+machine = record { Env = Env; Words = List ℕ; bounds = λ e. e.bounds; door = door; player = afgis }
+
+abbrev pub whole : List ℕ → List ℕ → Env → ℕ → Answer Env
+whole w s e budget = answered machine (record { list = w; budget = budget }) e s
+
+-- what a run promises: its answer, with the screen that it leaves, is the whole answer
+abbrev pub said : Told.Answer → List ℕ → Answer Env
+said a s = answer (verdict a.number) (held a.env) s a.steps
+
+abbrev pub Promise : List ℕ → List ℕ → Held.Env → ℕ → Told.Answer → List ℕ → Type 0
+Promise w s e budget a t = said a t ≡ whole w s (held e) budget

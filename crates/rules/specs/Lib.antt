@@ -1,0 +1,11 @@
+-- Document 01 in definitions: what a reader must believe.
+pub mod Types
+pub mod Table
+pub mod Operands
+pub mod Environment
+pub mod Conditions
+pub mod Opcodes
+pub mod Step
+pub mod Door
+pub mod Fresh
+pub mod Cases
