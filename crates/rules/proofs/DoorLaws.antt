@@ -57,7 +57,7 @@ module _ (q : Request (List ℕ)) (e : Env) (bytes : ℕ) where
 pub coord : (z : ℤ) → inWord z ≡ true → Coord z
 coord z h = record { small = omega (arith, within-mag z h) }
 
-sound : (b : Bounds) → sizeFits b ≡ true → paneFits b ≡ true → Sound b
+pub sound : (b : Bounds) → sizeFits b ≡ true → paneFits b ≡ true → Sound b
 sound b s p =
     let w = one (between 1 2048 (b .width)) _ s in
     let h = other (between 1 2048 (b .width)) _ s in

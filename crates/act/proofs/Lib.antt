@@ -1,0 +1,6 @@
+pub mod Acting
+pub mod ValueLaws
+pub mod ConditionLaws
+pub mod JumpLaws
+pub mod CallLaws
+pub mod PointLaws

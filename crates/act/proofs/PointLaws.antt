@@ -1,0 +1,67 @@
+-- Points: what two coordinates that are judged make of a point, and what an answer tells of it.
+use Prim.Native.Nat.{_^_, _<_}
+use mathlib.Core.Path.{_≡_, refl, sym, _∙_}
+use mathlib.Core.Bool.{Bool, true, false, cond, not, _&&_}
+use native.Mathlib.Omega.{arith}
+use borrow.Author.Tests.{not-false}
+use lib.IntN.{ℤ, _+ℤ_}
+use lib.Signed.{mag}
+use mir.Syntax.{w32}
+use mir.Val.{toZ, ofZ}
+use mir.Facts.{toZ-ofZ}
+use Rattle.numbers.specs.Coordinate.{inWord, coordinate}
+use Rattle.numbers.specs.declared.coordinate.Coordinate.the-variants.{Within, Outside}
+use Rattle.numbers.proofs.Answers.{told-first, told-second, clash}
+use Rattle.numbers.proofs.Coordinates.{within-mag}
+use Rattle.raster.specs.declared.dots.Dot.{Dot}
+use Rattle.raster.specs.Frame.{Coord}
+use Rattle.rules.specs.Opcodes.{far, shifted}
+use Rattle.rules.proofs.Ranges.{one, other}
+use Rattle.act.specs.declared.point.Point.{Point}
+use Rattle.act.specs.declared.point.Point.the-variants as Points
+use Rattle.act.specs.Contracts.{Near}
+use Rattle.act.specs.Points.{unless, pointOf, pointBy, paired}
+
+-- s and t: x and y are within a signed word
+by-both : (s t : Bool) (x y : ℤ)
+    → paired (cond s (Within x) Outside) (cond t (Within y) Outside) ≡ cond (not (s && t)) Points.Outside (Points.At (record { x = x; y = y }))
+by-both true true x y = refl
+by-both true false x y = refl
+by-both false t x y = refl
+
+pub judged : (p : Dot) → paired (coordinate (p .x)) (coordinate (p .y)) ≡ pointOf p
+unfolding coordinate unless
+judged p = by-both (inWord (p .x)) (inWord (p .y)) (p .x) (p .y)
+
+-- a value as the machine holds it, in 32 bits
+abbrev held : ℤ → ℤ
+held z = toZ w32 (ofZ w32 z)
+
+-- offsets outside are refused; others, which the program holds as q, are added, and the sums judged
+pub no-offset : (p d : Dot) → far d ≡ true → Points.Outside ≡ pointBy p d
+unfolding unless
+no-offset p d e = rw e
+
+pub sum-judged : (p d q : Dot) → (far d ≡ false) × (q ≡ d) → mag (p .x) < 2 ^ 31 → mag (p .y) < 2 ^ 31 → mag (q .x) < 2 ^ 31 → mag (q .y) < 2 ^ 31
+    → paired (coordinate (held (p .x) +ℤ held (q .x))) (coordinate (held (p .y) +ℤ held (q .y))) ≡ pointBy p d
+sum-judged p d q is px py qx qy = rw (same (p .x) px, same (p .y) py, same (q .x) qx, same (q .y) qy, is .1, is .0) (judged (shifted p d))
+  where
+    same : (z : ℤ) → mag z < 2 ^ 31 → held z ≡ z
+    same z h = toZ-ofZ {w = w32} (record { sfits = h })
+
+-- a point that is not far has coordinates for raster
+pub near : (p : Dot) → far p ≡ false → Near p
+near p e = let t = not-false (inWord (p .x) && inWord (p .y)) e in (coord (p .x) (one _ _ t), coord (p .y) (other (inWord (p .x)) _ t))
+  where
+    coord : (z : ℤ) → inWord z ≡ true → Coord z
+    coord z q = record { small = omega (arith, within-mag z q) }
+
+-- ---- what the answer r tells of the point p
+module _ {r : Point} (out : Bool) (p : Dot) (is : r ≡ unless out p) where
+  pub told-outside : r ≡ Points.Outside → out ≡ true
+  unfolding unless
+  told-outside e = told-first out (λ o. clash (cc)) (sym is ∙ e) .0
+
+  pub told-at : {q : Dot} → r ≡ Points.At q → (out ≡ false) × (q ≡ p)
+  unfolding unless
+  told-at e = let t = told-second out (λ o. clash (cc)) (sym is ∙ e) in (t .0, cc)

@@ -1,0 +1,28 @@
+-- `line_to`: a type other than 0 is 24, an end outside 25.
+use borrow.Author.Needs.{needs}
+use borrow.Author.Tests.{lt-ltb, le-ltb}
+use Rattle.act.proofs.Acting.{stays, goes}
+use Rattle.act.proofs.PointLaws.{near, told-outside, told-at}
+use Rattle.act.proofs.painting.line_to.Statement.{statement}
+use Rattle.act.proofs.painting.line_to.Tie as tie
+
+pub line-to-spec : {M : Type 1} → statement M
+line-to-spec =
+    tie.close (tie.spec
+    (λ c κs. search needs)
+    (λ c n vs st. stays _ _ _ {n = 24} (rw (lt-ltb _ _ (c .before .if1 .taken))) (rw (c .refused .ensures)))
+    (λ c κs. search needs) (λ c. search needs) (λ c. search needs) (λ c κs. search needs)
+    (λ c n vs st.
+    let x = c .before .before .before in
+    let far = told-outside _ _ (x .point-of .ensures) (c .before .enum-told .given .1) in
+    stays _ _ _ {n = 25} (rw (le-ltb _ _ (x .before .if1 .left), far)) (rw (c .refused2 .ensures)))
+    (λ c κs.
+    let x = c .before .before .before in
+    let q = told-at _ _ (x .before .before .point-of .ensures) (x .q .given .1) in
+    let pre = x .before .before .before .before .before .before .pre in
+    (pre, (pre .here, rw (q .1) (near _ (q .0)))))
+    (λ c. search needs)
+    (λ c n vs st.
+    let x = c .before .before .before .before .before .before in
+    let q = told-at _ _ (x .before .before .point-of .ensures) (x .q .given .1) in
+    goes _ _ _ (rw (le-ltb _ _ (x .before .before .before .if1 .left), q .0)) (rw (c .before .before .stroke .ensures, q .1))))

@@ -1,0 +1,9 @@
+-- `put`: the store is what the rule says.
+use mathlib.Core.Path.{refl}
+use borrow.Author.Needs.{needs}
+use Rattle.act.proofs.Acting.{turns}
+use Rattle.act.proofs.values.put.Statement.{statement}
+use Rattle.act.proofs.values.put.Tie as tie
+
+pub put-spec : {M : Type 1} → statement M
+put-spec = tie.close (tie.spec (λ c. search needs) (λ c. search needs) (λ c. search needs) (λ c b st s. turns _ _ s refl refl refl))

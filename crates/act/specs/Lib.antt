@@ -1,0 +1,4 @@
+pub mod Shown
+pub mod Contracts
+pub mod Conditions
+pub mod Points

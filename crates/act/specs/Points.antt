@@ -1,0 +1,25 @@
+-- What two values answer as a point.
+use mathlib.Core.Bool.{Bool, cond, _||_}
+use Rattle.numbers.specs.declared.coordinate.Coordinate.{Coordinate}
+use Rattle.numbers.specs.declared.coordinate.Coordinate.the-variants as Coordinates
+use Rattle.raster.specs.declared.dots.Dot.{Dot}
+use Rattle.rules.specs.Opcodes.{far, shifted}
+use Rattle.act.specs.declared.point.Point.{Point}
+use Rattle.act.specs.declared.point.Point.the-variants.{At, Outside}
+
+-- a point, unless something is outside
+unfoldable pub unless : Bool → Dot → Point
+unless out p = cond out Outside (At p)
+
+abbrev pub pointOf : Dot → Point
+pointOf p = unless (far p) p
+
+-- the point at the offsets d from p
+abbrev pub pointBy : Dot → Dot → Point
+pointBy p d = unless (far d || far (shifted p d)) (shifted p d)
+
+-- two coordinates that were judged
+abbrev pub paired : Coordinate → Coordinate → Point
+paired (Coordinates.Within x) (Coordinates.Within y) = At (record { x = x; y = y })
+paired (Coordinates.Within x) Coordinates.Outside = Outside
+paired Coordinates.Outside y = Outside

@@ -1,0 +1,43 @@
+// Points: two values, or two offsets from a point, each coordinate judged.
+use numbers::coordinate::Coordinate;
+use numbers::coordinate::coordinate_of;
+use numbers::coordinate::moved;
+use raster::dots::Dot;
+ghost use mathlib.Core.Path.{_≡_};
+ghost use Rattle.rules.specs.Opcodes as Opcodes;
+ghost use Rattle.act.specs.Points as Points;
+ghost use Rattle.act.specs.Points.{pointOf, pointBy};
+
+pub enum Point {
+    At(Dot),
+    Outside,
+}
+
+fn paired(x: Coordinate, y: Coordinate) -> Point
+    ensures { λ p. ⌜ p ≡ Points.paired x y ⌝ }
+{
+    let Coordinate::Within(x) = x else {
+        return Point::Outside;
+    };
+    let Coordinate::Within(y) = y else {
+        return Point::Outside;
+    };
+    Point::At(Dot { x, y })
+}
+
+// Two values as a point, judged at full width.
+pub fn point_of(a: u32, b: u32) -> Point
+    ensures { λ p. ⌜ p ≡ pointOf (Opcodes.point a b) ⌝ }
+{
+    paired(coordinate_of(a), coordinate_of(b))
+}
+
+// The point at two offsets from another: the offsets are judged, and then the sums.
+pub fn point_by(from: Dot, a: u32, b: u32) -> Point
+    ensures { λ p. ⌜ p ≡ pointBy from (Opcodes.point a b) ⌝ }
+{
+    let Point::At(d) = point_of(a, b) else {
+        return Point::Outside;
+    };
+    paired(moved(from.x, d.x), moved(from.y, d.y))
+}

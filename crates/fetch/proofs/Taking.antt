@@ -1,0 +1,73 @@
+-- Operands by the pieces that they come from: refused where a variable named or implied is above 63, else read.
+use Prim.Native.Nat.{ℕ, zero, suc, _+_, _<_, _≤_, max}
+use mathlib.Core.Path.{_≡_, refl, ap}
+use mathlib.Core.Bool.{Bool, true, false, cond}
+use mathlib.Core.List.{List, [], _∷_, append-nil}
+use native.Mathlib.Omega.{arith}
+use lib.ListN.{replicate}
+use lib.Dec.{ltb}
+use borrow.Author.Tests.{lt-ltb, le-ltb, ltb-true, ltb-false}
+use Rattle.numbers.specs.declared.place.Named.the-variants.{Var, Above}
+use Rattle.numbers.specs.Number.{signed16, low32}
+use Rattle.numbers.specs.Place.{varOf}
+use Rattle.rules.specs.declared.opcode.Operands.{Operands}
+use Rattle.rules.specs.Operands.{Piece, word, from, at, highest, following, values, destination, gathered}
+use Rattle.fetch.specs.declared.source.Taken.the-variants.{NoVariable, Got}
+use Rattle.fetch.specs.Stages.{ontoOf, takenOf}
+
+-- ---- n variables from v on, where j are passed already
+
+pub nth-variable : (n v j : ℕ) (vs : List ℕ) (k i : ℕ) → i ≡ j + k → k < n → at (following n v j vs) k ≡ at vs (v + i)
+nth-variable zero v j vs k i e h = absurd (omega arith)
+nth-variable (suc n) v j vs zero i e h = ap (λ (i : ℕ). at vs (v + i)) (omega arith)
+nth-variable (suc n) v j vs (suc k) i e h = nth-variable n v (j + 1) vs k i (omega arith) (omega arith)
+
+pub past-variables : (n v j : ℕ) (vs : List ℕ) (k : ℕ) → n ≤ k → at (following n v j vs) k ≡ 0
+past-variables zero v j vs k h = refl
+past-variables (suc n) v j vs zero h = absurd (omega arith)
+past-variables (suc n) v j vs (suc k) h = past-variables n v (j + 1) vs k (omega arith)
+
+-- ---- n words and no variable, where the first is j past the opcode
+module _ (w : List ℕ) (pc : ℕ) where
+  pub nth-word : (n j : ℕ) (vs : List ℕ) (k i : ℕ) → i ≡ j + k → k < n
+      → at (values (replicate n word) w pc j vs) k ≡ low32 (signed16 (at w (pc + i)))
+  nth-word zero j vs k i e h = absurd (omega arith)
+  nth-word (suc n) j vs zero i e h = ap (λ (i : ℕ). low32 (signed16 (at w (pc + i)))) (omega arith)
+  nth-word (suc n) j vs (suc k) i e h = nth-word n (j + 1) vs k i (omega arith) (omega arith)
+
+  pub past-words : (n j : ℕ) (vs : List ℕ) (k : ℕ) → n ≤ k → at (values (replicate n word) w pc j vs) k ≡ 0
+  past-words zero j vs k h = refl
+  past-words (suc n) j vs zero h = absurd (omega arith)
+  past-words (suc n) j vs (suc k) h = past-words n (j + 1) vs k (omega arith)
+
+  pub no-variable : (n j : ℕ) → highest (replicate n word) w pc j ≡ 0
+  no-variable zero j = refl
+  no-variable (suc n) j = rw (no-variable n (j + 1))
+
+  pub no-destination : (n j : ℕ) → destination (replicate n word) w pc j ≡ 0
+  no-destination zero j = refl
+  no-destination (suc n) j = no-destination n (j + 1)
+
+-- ---- pieces
+module _ (ps : List Piece) (w : List ℕ) (pc : ℕ) (vs : List ℕ) where
+  pub over : 63 < highest ps w pc 1 → NoVariable ≡ takenOf ps w pc vs
+  unfolding takenOf
+  over h = rw (lt-ltb _ _ h)
+
+  pub fine : {o : Operands} → highest ps w pc 1 ≤ 63 → o ≡ gathered (values ps w pc 1 vs) (destination ps w pc 1) → Got o ≡ takenOf ps w pc vs
+  unfolding takenOf
+  fine h e = rw (le-ltb _ _ h, e)
+
+  -- a destination v, while no other variable is above 63
+  pub onto : (v a : ℕ) → v ≤ highest ps w pc 1 → highest ps w pc 1 ≤ max v 63
+      → gathered (a ∷ []) v ≡ gathered (values ps w pc 1 vs) (destination ps w pc 1) → ontoOf a (varOf v) ≡ takenOf ps w pc vs
+  unfolding varOf
+  onto v a low high e = go (ltb 63 v) refl
+    where
+      go : (b : Bool) → ltb 63 v ≡ b → ontoOf a (cond b Above (Var (record { 0 = v }))) ≡ takenOf ps w pc vs
+      go true p = over (omega (arith, ltb-true 63 v p))
+      go false p = fine (omega (arith, ltb-false 63 v p)) e
+
+pub from-variable : (n : ℕ) (w : List ℕ) (pc : ℕ) (vs : List ℕ) (v : ℕ) → v ≡ at w (pc + 1) → v ≤ 63 → v + n ≤ 64
+    → Got (gathered (following n v 0 vs) 0) ≡ takenOf (from n ∷ []) w pc vs
+from-variable n w pc vs v e h k = fine (from n ∷ []) w pc vs (omega arith) (rw (e, append-nil))

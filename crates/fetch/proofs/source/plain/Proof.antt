@@ -1,0 +1,27 @@
+-- `plain`: each value is the one of its place, and words name no variable.
+use native.Mathlib.Omega.{arith}
+use borrow.Author.Needs.{needs}
+use Rattle.fetch.proofs.Taking.{no-variable, no-destination, fine}
+use Rattle.fetch.proofs.source.plain.Statement.{statement}
+use Rattle.fetch.proofs.source.plain.Tie as tie
+
+pub plain-spec : {M : Type 1} → statement M
+plain-spec =
+    tie.close
+    (tie.spec
+    (λ c κs. search needs)
+    (λ c κs. search needs)
+    (λ c κs. search needs)
+    (λ c κs. search needs)
+    (λ c κs. search needs)
+    (λ c vs.
+    let p = c .before .before in
+    fine _ _ _ _ (rw no-variable (omega arith))
+    (rw (
+      no-destination,
+      ← (p .before .before .operand .ensures vs),
+      ← (p .before .operand2 .ensures vs),
+      ← (p .operand3 .ensures vs),
+      ← (c .before .operand4 .ensures vs),
+      ← (c .operand5 .ensures vs),
+    ))))

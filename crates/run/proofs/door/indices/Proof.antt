@@ -1,0 +1,50 @@
+-- `indices`: those before i are word indices, and one that is none is found.
+use Prim.Native.Nat.{_≤_, _-_}
+use mathlib.Core.Path.{_≡_, refl, sym}
+use mathlib.Core.Bool.{true}
+use native.Mathlib.Omega.{arith}
+use Rattle.rules.specs.Environment.{firsts}
+use Rattle.rules.specs.Door.{indices}
+use Rattle.run.proofs.Doors.{bad, good}
+use Rattle.run.proofs.door.indices.Statement.{statement}
+use Rattle.run.proofs.door.indices.Tie as tie
+
+abbrev Inv-loop : tie.InvT-loop
+Inv-loop stack depth i₀ i = (i ≤ depth) × (indices (firsts i stack) ≡ true)
+
+abbrev μ-loop : tie.MeasureT-loop
+μ-loop stack depth i₀ i = depth - i
+
+loop-holds : tie.Need-loop-holds Inv-loop μ-loop
+unfolding firsts
+loop-holds c = (omega arith, refl)
+
+returns : tie.Need-returns Inv-loop μ-loop
+returns c =
+    let l = c .before .before .before in
+    let a = l .before .args in
+    bad (a .depth) (l .loop .i) (a .stack .now) (c .before .before .loop-test .taken) (c .if1 .taken)
+
+loop-again : tie.Need-loop-again Inv-loop μ-loop
+loop-again c =
+    let l = c .before .before .before in
+    (omega arith, good (l .loop .i) (l .before .args .stack .now) (l .loop .inv .1) (c .if1 .left))
+
+returns-2 : tie.Need-returns-2 Inv-loop μ-loop
+returns-2 c = let e : c .before .loop .i ≡ c .before .before .args .depth = omega arith in sym (rw e at (c .before .loop .inv .1))
+
+pub indices-spec : {M : Type 1} → statement M
+indices-spec =
+    tie.close
+    (tie.spec
+    Inv-loop
+    μ-loop
+    loop-holds
+    (λ c. omega arith)
+    (λ c. omega arith)
+    (λ c. omega arith)
+    returns
+    (λ c. omega arith)
+    (λ c. omega arith)
+    loop-again
+    returns-2)

@@ -1,0 +1,50 @@
+// The whole call: refused at the door with nothing changed, or run.
+use crate::door::door;
+use crate::turns::turns;
+use player::State;
+use rules::answer::Answer;
+use rules::environment::Env;
+use rules::environment::state_of;
+ghost use mathlib.Core.Path.{_≡_};
+ghost use Rattle.rules.specs.Door.{Promise};
+ghost use Rattle.run.specs.Turns as Turns;
+
+// What the state that is left answers; of one that still runs, that the budget is used up.
+fn number_of(s: State) -> u8
+    ensures { λ n. ⌜ n ≡ Turns.numberOf s ⌝ }
+{
+    match s {
+        State::Running => 1,
+        State::Ended => 0,
+        State::Stopped(v) => v.number,
+    }
+}
+
+pub fn run(list: &[u16], screen: &mut [u8], env: Env, budget: u32) -> Answer
+    ensures { λ a. ⌜ Promise (now (list .entry)) (now (screen .entry)) env budget a (now (screen .exit)) ⌝ }
+{
+    let b = env.bounds;
+    let r = env.registers;
+    let mut vars = env.variables;
+    let mut stack = env.stack;
+    let d = door(list.len(), screen.len(), b, r, &stack, budget);
+    if d != 0 {
+        return Answer {
+            number: d,
+            env,
+            steps: 0,
+        };
+    }
+    let q = turns(list, b, r, &mut vars, &mut stack, screen, budget);
+    let registers = q.registers;
+    Answer {
+        number: number_of(state_of(registers.state)),
+        env: Env {
+            bounds: b,
+            registers,
+            variables: vars,
+            stack,
+        },
+        steps: q.steps,
+    }
+}
