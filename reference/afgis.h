@@ -1,0 +1,37 @@
+/* AFGIS display lists by document 01, in plain C: the second program, written from the papers alone. */
+#ifndef AFGIS_H
+#define AFGIS_H
+
+#include <stddef.h>
+#include <stdint.h>
+
+/* "The environment holds". */
+struct afgis_env {
+    uint32_t width, height;             /* the screen's size, each 1 to 2,048 */
+    uint32_t left, top, right, bottom;  /* the pane, both ends inside */
+    int32_t variables[64];
+    int32_t x, y;                       /* the position, each -32,768 to 32,767 */
+    uint8_t colour;                     /* the foreground colour */
+    uint32_t mode;                      /* the clip mode, 0 to 2 */
+    int32_t x0, y0, x1, y1;             /* the clip window, four signed words */
+    int32_t first, second;              /* the two values last compared */
+    uint32_t counter;                   /* the program counter, 0 to 65,536 */
+    uint32_t depth;                     /* how many return indices are stacked, 0 to 16 */
+    uint32_t stack[16];                 /* those below depth: each 0 to 65,536 */
+    uint8_t state;                      /* 0 running, 1 ended, 20 to 29 stopped with that number */
+};
+
+struct afgis_answer {
+    int number;
+    uint32_t steps;
+};
+
+/* Makes a fresh environment: 0, or 10 or 12 and an environment of zeros. */
+int afgis_fresh(uint32_t width, uint32_t height, uint32_t left, uint32_t top, uint32_t right, uint32_t bottom,
+                struct afgis_env *env);
+
+/* Runs a list: at most `budget` opcodes, painting on the screen and changing the environment. */
+struct afgis_answer afgis_run(const uint16_t *list, size_t words, uint8_t *screen, size_t bytes,
+                              struct afgis_env *env, uint32_t budget);
+
+#endif

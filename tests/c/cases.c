@@ -1,0 +1,333 @@
+/*
+ * Document 01's fourteen cases with their variants, and the numbers 10 to 14, through the C face of the
+ * box. Each answer is checked whole: number, steps, every field of the environment, every byte.
+ */
+
+#include "libc.h"
+#include "ovenlute.h"
+
+enum { WIDTH = 5, HEIGHT = 3, BYTES = WIDTH * HEIGHT, MOST_WORDS = 24, MOST_CHANGES = 6 };
+
+/* The fields that a case leaves other than fresh. */
+enum change { NOTHING, VARIABLE, POSITION_X, POSITION_Y, COUNTER, DEPTH, STACKED, MODE, COLOUR, FIRST, SECOND, STATE };
+
+struct changed {
+    enum change what;
+    int which;      /* the variable's number, or the stacked index's */
+    int32_t value;
+};
+
+struct test {
+    const char *name;
+    size_t words;
+    uint16_t list[MOST_WORDS];
+    uint32_t budget;
+    struct ovenlute_pane pane;
+    uint8_t number;
+    uint32_t steps;
+    struct changed changes[MOST_CHANGES];
+    const char *screen;  /* row by row: . is 0, # is 15, 7 is 7 */
+};
+
+#define WHOLE { 0, 0, WIDTH - 1, HEIGHT - 1 }
+#define BLANK "....." "....." "....."
+
+static const struct test tests[] = {
+    { "1", 0, { 0 }, 100, WHOLE, 20, 0, { { STATE, 0, 20 } }, BLANK },
+    { "1, budget 0", 0, { 0 }, 0, WHOLE, 1, 0, { { NOTHING, 0, 0 } }, BLANK },
+    { "2", 1, { 0x0001 }, 100, WHOLE, 0, 1, { { COUNTER, 0, 1 }, { STATE, 0, 1 } }, BLANK },
+    { "2, budget 1", 1, { 0x0001 }, 1, WHOLE, 0, 1, { { COUNTER, 0, 1 }, { STATE, 0, 1 } }, BLANK },
+    { "2, budget 0", 1, { 0x0001 }, 0, WHOLE, 1, 0, { { NOTHING, 0, 0 } }, BLANK },
+    { "3", 7, { 0x0066, 0xFFFF, 0x7FFF, 0x0000, 0x005D, 0x0000, 0x0001 }, 100, WHOLE, 0, 3,
+      { { VARIABLE, 0, INT32_MIN }, { COUNTER, 0, 7 }, { STATE, 0, 1 } }, BLANK },
+    { "4", 7, { 0x0066, 0x0000, 0x0001, 0x0005, 0x0083, 0x0004, 0x0001 }, 100, WHOLE, 25, 1,
+      { { VARIABLE, 5, 65536 }, { COUNTER, 0, 4 }, { STATE, 0, 25 } }, BLANK },
+    { "4, budget 1", 7, { 0x0066, 0x0000, 0x0001, 0x0005, 0x0083, 0x0004, 0x0001 }, 1, WHOLE, 1, 1,
+      { { VARIABLE, 5, 65536 }, { COUNTER, 0, 4 } }, BLANK },
+    { "5", 10, { 0x0065, 0xFFF9, 0x0000, 0x0065, 0x0002, 0x0001, 0x0045, 0x0001, 0x0000, 0x0001 }, 100, WHOLE, 0, 4,
+      { { VARIABLE, 0, -3 }, { VARIABLE, 1, 2 }, { COUNTER, 0, 10 }, { STATE, 0, 1 } }, BLANK },
+    { "5 with 0081", 10, { 0x0065, 0xFFF9, 0x0000, 0x0065, 0x0002, 0x0001, 0x0081, 0x0001, 0x0000, 0x0001 }, 100, WHOLE,
+      0, 4, { { VARIABLE, 0, -1 }, { VARIABLE, 1, 2 }, { COUNTER, 0, 10 }, { STATE, 0, 1 } }, BLANK },
+    { "5, budget 2", 10, { 0x0065, 0xFFF9, 0x0000, 0x0065, 0x0002, 0x0001, 0x0045, 0x0001, 0x0000, 0x0001 }, 2, WHOLE,
+      1, 2, { { VARIABLE, 0, -7 }, { VARIABLE, 1, 2 }, { COUNTER, 0, 6 } }, BLANK },
+    { "6", 3, { 0x0045, 0x0001, 0x0000 }, 100, WHOLE, 26, 0, { { STATE, 0, 26 } }, BLANK },
+    { "6 with 0081", 3, { 0x0081, 0x0001, 0x0000 }, 100, WHOLE, 26, 0, { { STATE, 0, 26 } }, BLANK },
+    { "7", 3, { 0x0003, 0x0040, 0x0000 }, 100, WHOLE, 23, 0, { { STATE, 0, 23 } }, BLANK },
+    { "7 with 003F", 3, { 0x0003, 0x003F, 0x0000 }, 100, WHOLE, 20, 1, { { COUNTER, 0, 3 }, { STATE, 0, 20 } }, BLANK },
+    { "8", 2, { 0x0066, 0x0000 }, 100, WHOLE, 22, 0, { { STATE, 0, 22 } }, BLANK },
+    { "9", 7, { 0x0074, 0x0000, 0x0000, 0x0000, 0x0004, 0x0002, 0x0001 }, 100, WHOLE, 0, 2,
+      { { COUNTER, 0, 7 }, { STATE, 0, 1 } }, "#...." ".##.." "...##" },
+    { "9 from the other end", 7, { 0x0074, 0x0000, 0x0004, 0x0002, 0x0000, 0x0000, 0x0001 }, 100, WHOLE, 0, 2,
+      { { COUNTER, 0, 7 }, { STATE, 0, 1 } }, "##..." "..##." "....#" },
+    { "9 as LINETO", 5, { 0x007C, 0x0000, 0x0004, 0x0002, 0x0001 }, 100, WHOLE, 0, 2,
+      { { POSITION_X, 0, 4 }, { POSITION_Y, 0, 2 }, { COUNTER, 0, 5 }, { STATE, 0, 1 } }, "#...." ".##.." "...##" },
+    { "10", 7, { 0x0074, 0x0000, 0x0000, 0x0000, 0x0004, 0x0002, 0x0001 }, 100, { 2, 0, 4, 2 }, 0, 2,
+      { { COUNTER, 0, 7 }, { STATE, 0, 1 } }, "....." "..#.." "...##" },
+    { "10 after CLIPMODE 0", 9, { 0x0016, 0x0000, 0x0074, 0x0000, 0x0000, 0x0000, 0x0004, 0x0002, 0x0001 }, 100,
+      { 2, 0, 4, 2 }, 0, 3, { { COUNTER, 0, 9 }, { STATE, 0, 1 } }, "....." "..#.." "...##" },
+    { "11, budget 16", 2, { 0x010E, 0xFFFE }, 16, WHOLE, 1, 16, { { DEPTH, 0, 16 }, { STACKED, -1, 2 } }, BLANK },
+    { "11", 2, { 0x010E, 0xFFFE }, 100, WHOLE, 28, 16,
+      { { DEPTH, 0, 16 }, { STACKED, -1, 2 }, { STATE, 0, 28 } }, BLANK },
+    { "12", 3, { 0x000E, 0x0008, 0x0000 }, 100, WHOLE, 27, 0, { { STATE, 0, 27 } }, BLANK },
+    { "12 with 0010", 3, { 0x000E, 0x0010, 0x0000 }, 100, WHOLE, 21, 1,
+      { { COUNTER, 0, 1 }, { DEPTH, 0, 1 }, { STACKED, 0, 3 }, { STATE, 0, 21 } }, BLANK },
+    { "13", 2, { 0x0016, 0x0003 }, 100, WHOLE, 24, 0, { { STATE, 0, 24 } }, BLANK },
+    { "13 with 0002", 2, { 0x0016, 0x0002 }, 100, WHOLE, 20, 1,
+      { { MODE, 0, 2 }, { COUNTER, 0, 2 }, { STATE, 0, 20 } }, BLANK },
+    { "14", 6, { 0x0150, 0xFFFF, 0x0000, 0x0007, 0x0000, 0x0001 }, 100, WHOLE, 0, 2,
+      { { COUNTER, 0, 6 }, { STATE, 0, 1 } }, BLANK },
+    { "14 with 0000 and colour 010F", 6, { 0x0150, 0x0000, 0x0000, 0x010F, 0x0000, 0x0001 }, 100, WHOLE, 0, 2,
+      { { COUNTER, 0, 6 }, { STATE, 0, 1 } }, "#...." "....." "....." },
+    { "compared values", 11,
+      { 0x0065, 0x0005, 0x0003, 0x0033, 0x0007, 0x0000, 0x0003, 0x010C, 0x0004, 0x0000, 0x0001 }, 100, WHOLE, 0, 4,
+      { { VARIABLE, 3, 5 }, { FIRST, 0, 5 }, { SECOND, 0, 7 }, { COUNTER, 0, 11 }, { STATE, 0, 1 } }, BLANK },
+    { "a colour and a dot", 7, { 0x001F, 0x1107, 0x2222, 0x009E, 0x0004, 0x0002, 0x0001 }, 100, WHOLE, 0, 3,
+      { { COLOUR, 0, 7 }, { COUNTER, 0, 7 }, { STATE, 0, 1 } }, "....." "....." "....7" },
+    { "return with none stacked", 1, { 0x00B9 }, 100, WHOLE, 29, 0, { { STATE, 0, 29 } }, BLANK },
+};
+
+static int failed;
+static int checked;
+
+/* One thing checked; what is wrong, or NULL. */
+static void check(const char *name, const char *wrong)
+{
+    checked++;
+    if (wrong == NULL)
+        return;
+    failed++;
+    printf("case %s: %s\n", name, wrong);
+}
+
+/* ---- environments ---- */
+
+/* Document 01's fresh environment. */
+static void fresh_env(struct ovenlute_env *env, struct ovenlute_pane pane)
+{
+    memset(env, 0, sizeof *env);
+    env->bounds.width = WIDTH;
+    env->bounds.height = HEIGHT;
+    env->bounds.pane = pane;
+    env->registers.window.x1 = WIDTH - 1;
+    env->registers.window.y1 = HEIGHT - 1;
+    env->registers.colour = 15;
+}
+
+/* A stacked index -1 stands for all that are stacked. */
+static void set_stacked(struct ovenlute_env *env, int which, uint32_t value)
+{
+    for (uint32_t i = 0; i < env->registers.depth; i++)
+        if (which < 0 || i == (uint32_t)which)
+            env->stack[i] = value;
+}
+
+static void apply(struct ovenlute_env *env, const struct changed *changed)
+{
+    struct ovenlute_registers *registers = &env->registers;
+
+    switch (changed->what) {
+    case NOTHING:
+        break;
+    case VARIABLE:
+        env->variables[changed->which] = changed->value;
+        break;
+    case POSITION_X:
+        registers->position.x = changed->value;
+        break;
+    case POSITION_Y:
+        registers->position.y = changed->value;
+        break;
+    case COUNTER:
+        registers->counter = (uint32_t)changed->value;
+        break;
+    case DEPTH:
+        registers->depth = (uint32_t)changed->value;
+        break;
+    case STACKED:
+        set_stacked(env, changed->which, (uint32_t)changed->value);
+        break;
+    case MODE:
+        registers->mode = (uint32_t)changed->value;
+        break;
+    case COLOUR:
+        registers->colour = (uint8_t)changed->value;
+        break;
+    case FIRST:
+        registers->first = changed->value;
+        break;
+    case SECOND:
+        registers->second = changed->value;
+        break;
+    case STATE:
+        registers->state = (uint8_t)changed->value;
+        break;
+    }
+}
+
+static int same_bounds(const struct ovenlute_bounds *a, const struct ovenlute_bounds *b)
+{
+    return a->width == b->width && a->height == b->height
+        && a->pane.left == b->pane.left && a->pane.top == b->pane.top
+        && a->pane.right == b->pane.right && a->pane.bottom == b->pane.bottom;
+}
+
+static int same_registers(const struct ovenlute_registers *a, const struct ovenlute_registers *b)
+{
+    return a->position.x == b->position.x && a->position.y == b->position.y
+        && a->window.x0 == b->window.x0 && a->window.y0 == b->window.y0
+        && a->window.x1 == b->window.x1 && a->window.y1 == b->window.y1
+        && a->mode == b->mode && a->first == b->first && a->second == b->second
+        && a->counter == b->counter && a->depth == b->depth
+        && a->colour == b->colour && a->state == b->state;
+}
+
+/* Past the depth nothing of the stack counts. */
+static int same_env(const struct ovenlute_env *a, const struct ovenlute_env *b)
+{
+    if (!same_bounds(&a->bounds, &b->bounds) || !same_registers(&a->registers, &b->registers))
+        return 0;
+    for (int i = 0; i < 64; i++)
+        if (a->variables[i] != b->variables[i])
+            return 0;
+    for (uint32_t i = 0; i < a->registers.depth && i < 16; i++)
+        if (a->stack[i] != b->stack[i])
+            return 0;
+    return 1;
+}
+
+/* ---- the cases ---- */
+
+static int byte_of(char letter)
+{
+    if (letter == '7')
+        return 7;
+    return letter == '#' ? 15 : 0;
+}
+
+static int same_screen(const uint8_t *screen, const char *wanted)
+{
+    for (int i = 0; i < BYTES; i++)
+        if (screen[i] != byte_of(wanted[i]))
+            return 0;
+    return 1;
+}
+
+static void wanted_env(const struct test *test, struct ovenlute_env *env)
+{
+    fresh_env(env, test->pane);
+    for (int i = 0; i < MOST_CHANGES; i++)
+        apply(env, &test->changes[i]);
+}
+
+static const char *wrong_answer(const struct test *test, struct ovenlute_done done, const struct ovenlute_env *env,
+                                const uint8_t *screen, uint32_t steps)
+{
+    struct ovenlute_env wanted;
+
+    wanted_env(test, &wanted);
+    if (done.number != test->number)
+        return "another number";
+    if (done.steps != steps)
+        return "other steps";
+    if (!same_env(env, &wanted))
+        return "another environment";
+    return same_screen(screen, test->screen) ? NULL : "another screen";
+}
+
+/* A case; and what has stopped or ended answers the same once more, with no step. */
+static void run_test(const struct test *test)
+{
+    struct ovenlute_made made = ovenlute_fresh(WIDTH, HEIGHT, test->pane);
+    uint8_t screen[BYTES] = { 0 };
+    struct ovenlute_done done;
+
+    done = ovenlute_run(test->list, test->words, screen, BYTES, &made.env, test->budget);
+    check(test->name, wrong_answer(test, done, &made.env, screen, test->steps));
+    if (test->number == OVENLUTE_BUDGET)
+        return;
+    done = ovenlute_run(test->list, test->words, screen, BYTES, &made.env, 0);
+    check(test->name, wrong_answer(test, done, &made.env, screen, 0));
+}
+
+/* ---- the door ---- */
+
+static const struct ovenlute_pane whole_pane = WHOLE;
+
+static void check_fresh(const char *name, uint32_t width, uint32_t height, struct ovenlute_pane pane, uint8_t number)
+{
+    struct ovenlute_made made = ovenlute_fresh(width, height, pane);
+    struct ovenlute_env wanted;
+
+    memset(&wanted, 0, sizeof wanted);
+    if (number == OVENLUTE_ENDED)
+        fresh_env(&wanted, pane);
+    check(name, made.number != number ? "another number" : same_env(&made.env, &wanted) ? NULL : "another environment");
+}
+
+static void check_fresh_calls(void)
+{
+    struct ovenlute_pane part = { 1, 1, 3, 1 };
+    struct ovenlute_pane empty = { 3, 0, 2, 2 };
+    struct ovenlute_pane outside = { 0, 0, 5, 2 };
+
+    check_fresh("fresh, whole pane", WIDTH, HEIGHT, whole_pane, OVENLUTE_ENDED);
+    check_fresh("fresh, part of the screen", WIDTH, HEIGHT, part, OVENLUTE_ENDED);
+    check_fresh("fresh, no width", 0, HEIGHT, whole_pane, OVENLUTE_BAD_SIZE);
+    check_fresh("fresh, height above 2,048", WIDTH, 2049, whole_pane, OVENLUTE_BAD_SIZE);
+    check_fresh("fresh, empty pane", WIDTH, HEIGHT, empty, OVENLUTE_BAD_FIELD);
+    check_fresh("fresh, pane past the screen", WIDTH, HEIGHT, outside, OVENLUTE_BAD_FIELD);
+    check_fresh("fresh, size before pane", WIDTH, 0, empty, OVENLUTE_BAD_SIZE);
+}
+
+/* Refused at the door: number, no steps, and nothing changed. */
+static void check_door(const char *name, const struct ovenlute_env *env, size_t words, size_t bytes, uint32_t budget,
+                       uint8_t number)
+{
+    static const uint16_t list[65537];
+    struct ovenlute_env after = *env;
+    uint8_t screen[BYTES + 1] = { 0 };
+    struct ovenlute_done done = ovenlute_run(list, words, screen, bytes, &after, budget);
+
+    if (done.number != number)
+        check(name, "another number");
+    else if (done.steps != 0)
+        check(name, "other steps");
+    else if (!same_env(&after, env))
+        check(name, "another environment");
+    else
+        check(name, same_screen(screen, BLANK) ? NULL : "another screen");
+}
+
+static void check_door_calls(void)
+{
+    struct ovenlute_env good, bad_size, bad_mode, stopped;
+    struct ovenlute_env zeros = ovenlute_fresh(0, 0, whole_pane).env;
+
+    fresh_env(&good, whole_pane);
+    bad_size = bad_mode = stopped = good;
+    bad_size.bounds.width = 2049;
+    bad_mode.registers.mode = 3;
+    stopped.registers.state = 25;
+    check_door("10, zeros", &zeros, 1, 0, 1, OVENLUTE_BAD_SIZE);
+    check_door("10 before 11", &bad_size, 1, BYTES, 1, OVENLUTE_BAD_SIZE);
+    check_door("11, one short", &good, 1, BYTES - 1, 1, OVENLUTE_BAD_SCREEN);
+    check_door("11, one more", &good, 1, BYTES + 1, 1, OVENLUTE_BAD_SCREEN);
+    check_door("11 before 12", &bad_mode, 1, BYTES - 1, 1, OVENLUTE_BAD_SCREEN);
+    check_door("12", &bad_mode, 1, BYTES, 1, OVENLUTE_BAD_FIELD);
+    check_door("12 before 13", &bad_mode, 65537, BYTES, 1, OVENLUTE_BAD_FIELD);
+    check_door("13", &good, 65537, BYTES, 1, OVENLUTE_LONG_LIST);
+    check_door("13 before 14", &good, 65537, BYTES, 1000001, OVENLUTE_LONG_LIST);
+    check_door("14", &good, 1, BYTES, 1000001, OVENLUTE_LARGE_BUDGET);
+    check_door("14 before the state", &stopped, 1, BYTES, 1000001, OVENLUTE_LARGE_BUDGET);
+    check_door("the state before the budget", &stopped, 1, BYTES, 0, OVENLUTE_OUT_OF_RANGE);
+}
+
+int main(void)
+{
+    for (size_t i = 0; i < sizeof tests / sizeof tests[0]; i++)
+        run_test(&tests[i]);
+    check_fresh_calls();
+    check_door_calls();
+    printf("%d cases, %d failed\n", checked, failed);
+    return failed != 0;
+}

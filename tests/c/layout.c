@@ -1,0 +1,49 @@
+/* Sizes and offsets of every struct of include/ovenlute.h, as the box lays them out. */
+
+#include "ovenlute.h"
+
+_Static_assert(sizeof(struct ovenlute_pane) == 16, "pane");
+_Static_assert(offsetof(struct ovenlute_pane, left) == 0, "pane.left");
+_Static_assert(offsetof(struct ovenlute_pane, top) == 4, "pane.top");
+_Static_assert(offsetof(struct ovenlute_pane, right) == 8, "pane.right");
+_Static_assert(offsetof(struct ovenlute_pane, bottom) == 12, "pane.bottom");
+
+_Static_assert(sizeof(struct ovenlute_bounds) == 24, "bounds");
+_Static_assert(offsetof(struct ovenlute_bounds, width) == 0, "bounds.width");
+_Static_assert(offsetof(struct ovenlute_bounds, height) == 4, "bounds.height");
+_Static_assert(offsetof(struct ovenlute_bounds, pane) == 8, "bounds.pane");
+
+_Static_assert(sizeof(struct ovenlute_dot) == 8, "dot");
+_Static_assert(offsetof(struct ovenlute_dot, x) == 0, "dot.x");
+_Static_assert(offsetof(struct ovenlute_dot, y) == 4, "dot.y");
+
+_Static_assert(sizeof(struct ovenlute_window) == 16, "window");
+_Static_assert(offsetof(struct ovenlute_window, x0) == 0, "window.x0");
+_Static_assert(offsetof(struct ovenlute_window, y0) == 4, "window.y0");
+_Static_assert(offsetof(struct ovenlute_window, x1) == 8, "window.x1");
+_Static_assert(offsetof(struct ovenlute_window, y1) == 12, "window.y1");
+
+_Static_assert(sizeof(struct ovenlute_registers) == 48, "registers");
+_Static_assert(offsetof(struct ovenlute_registers, position) == 0, "registers.position");
+_Static_assert(offsetof(struct ovenlute_registers, window) == 8, "registers.window");
+_Static_assert(offsetof(struct ovenlute_registers, mode) == 24, "registers.mode");
+_Static_assert(offsetof(struct ovenlute_registers, first) == 28, "registers.first");
+_Static_assert(offsetof(struct ovenlute_registers, second) == 32, "registers.second");
+_Static_assert(offsetof(struct ovenlute_registers, counter) == 36, "registers.counter");
+_Static_assert(offsetof(struct ovenlute_registers, depth) == 40, "registers.depth");
+_Static_assert(offsetof(struct ovenlute_registers, colour) == 44, "registers.colour");
+_Static_assert(offsetof(struct ovenlute_registers, state) == 45, "registers.state");
+
+_Static_assert(sizeof(struct ovenlute_env) == 392, "env");
+_Static_assert(offsetof(struct ovenlute_env, bounds) == 0, "env.bounds");
+_Static_assert(offsetof(struct ovenlute_env, registers) == 24, "env.registers");
+_Static_assert(offsetof(struct ovenlute_env, variables) == 72, "env.variables");
+_Static_assert(offsetof(struct ovenlute_env, stack) == 328, "env.stack");
+
+_Static_assert(sizeof(struct ovenlute_made) == 396, "made");
+_Static_assert(offsetof(struct ovenlute_made, number) == 0, "made.number");
+_Static_assert(offsetof(struct ovenlute_made, env) == 4, "made.env");
+
+_Static_assert(sizeof(struct ovenlute_done) == 8, "done");
+_Static_assert(offsetof(struct ovenlute_done, number) == 0, "done.number");
+_Static_assert(offsetof(struct ovenlute_done, steps) == 4, "done.steps");

@@ -1,0 +1,198 @@
+#include "libc.h"
+#include "plain.h"
+
+/* What may be painted: both ends inside. */
+struct area {
+    int32_t left, top, right, bottom;
+};
+
+struct machine {
+    const uint16_t *list;
+    size_t words;
+    uint8_t *screen;
+    struct afgis_env *env;
+    struct area area;
+};
+
+static int32_t larger(int32_t a, int32_t b)
+{
+    return a > b ? a : b;
+}
+
+static int32_t smaller(int32_t a, int32_t b)
+{
+    return a < b ? a : b;
+}
+
+/* None of the opcodes here changes it. */
+static struct area drawable(const struct afgis_env *env)
+{
+    struct area area = { (int32_t)env->left, (int32_t)env->top, (int32_t)env->right, (int32_t)env->bottom };
+
+    if (env->mode != 0) {
+        area.left = larger(area.left, env->x0);
+        area.top = larger(area.top, env->y0);
+        area.right = smaller(area.right, env->x1);
+        area.bottom = smaller(area.bottom, env->y1);
+    }
+    return area;
+}
+
+static inline void paint(const struct machine *m, int32_t x, int32_t y, uint8_t colour)
+{
+    if (x >= m->area.left && x <= m->area.right && y >= m->area.top && y <= m->area.bottom)
+        m->screen[(uint32_t)y * m->env->width + (uint32_t)x] = colour;
+}
+
+/* Bresenham's way: no division, a test per dot. */
+static void paint_line(const struct machine *m, int32_t x0, int32_t y0, int32_t x1, int32_t y1)
+{
+    int32_t across = x0 < x1 ? x1 - x0 : x0 - x1;
+    int32_t down = y0 < y1 ? y1 - y0 : y0 - y1;
+    int32_t step_x = x0 < x1 ? 1 : -1;
+    int32_t step_y = y0 < y1 ? 1 : -1;
+    int x_is_long = across >= down;
+    int32_t long_side = x_is_long ? across : down;
+    int32_t short_side = x_is_long ? down : across;
+    int32_t error = long_side;
+    uint8_t colour = m->env->colour;
+
+    for (int32_t k = 0; k <= long_side; k++) {
+        paint(m, x0, y0, colour);
+        error += 2 * short_side;
+        if (error >= 2 * long_side) {
+            error -= 2 * long_side;
+            x0 += x_is_long ? 0 : step_x;
+            y0 += x_is_long ? step_y : 0;
+        }
+        x0 += x_is_long ? step_x : 0;
+        y0 += x_is_long ? 0 : step_y;
+    }
+}
+
+static void clear(const struct machine *m, uint8_t colour)
+{
+    for (int32_t y = m->area.top; y <= m->area.bottom; y++)
+        if (m->area.left <= m->area.right)
+            memset(m->screen + (uint32_t)y * m->env->width + (uint32_t)m->area.left, colour,
+                   (size_t)(m->area.right - m->area.left + 1));
+}
+
+static int32_t long_at(const uint16_t *word)
+{
+    return (int32_t)(word[0] | (uint32_t)word[1] << 16);
+}
+
+/* The seven conditions; -1 for any other number. */
+static int condition(const struct afgis_env *env, uint16_t number)
+{
+    switch (number) {
+    case 0x0: return 1;
+    case 0x4: return env->first < env->second;
+    case 0x5: return env->first >= env->second;
+    case 0x6: return env->first <= env->second;
+    case 0x7: return env->first > env->second;
+    case 0xA: return env->first == env->second;
+    case 0xB: return env->first != env->second;
+    default: return -1;
+    }
+}
+
+static int jump(const struct machine *m, const uint16_t *word, uint32_t *counter)
+{
+    int taken = condition(m->env, word[1]);
+    int64_t target = (int64_t)*counter + 3 + (int16_t)word[2];
+
+    if (taken < 0)
+        return 24;
+    if (!taken) {
+        *counter += 3;
+        return 0;
+    }
+    if (target < 0 || target >= (int64_t)m->words)
+        return 27;
+    *counter = (uint32_t)target;
+    return 0;
+}
+
+/* One opcode: 0, or the number with which it is refused. */
+static inline int carry_out(struct machine *m, uint32_t *counter)
+{
+    struct afgis_env *env = m->env;
+    const uint16_t *word = m->list + *counter;
+    size_t left = m->words - *counter;
+
+    if (*counter >= m->words)
+        return 20;
+    switch (word[0]) {
+    case 0x0001:
+        env->state = 1;
+        *counter += 1;
+        return 0;
+    case 0x0033:
+        if (left < 4)
+            return 22;
+        if (word[3] > 63)
+            return 23;
+        env->first = env->variables[word[3]];
+        env->second = long_at(word + 1);
+        *counter += 4;
+        return 0;
+    case 0x005D:
+        if (left < 2)
+            return 22;
+        if (word[1] > 63)
+            return 23;
+        env->variables[word[1]] = (int32_t)((uint32_t)env->variables[word[1]] + 1);
+        *counter += 2;
+        return 0;
+    case 0x0074:
+        if (left < 6)
+            return 22;
+        if (word[1] != 0)
+            return 24;
+        paint_line(m, (int16_t)word[2], (int16_t)word[3], (int16_t)word[4], (int16_t)word[5]);
+        *counter += 6;
+        return 0;
+    case 0x009E:
+        if (left < 3)
+            return 22;
+        paint(m, (int16_t)word[1], (int16_t)word[2], env->colour);
+        *counter += 3;
+        return 0;
+    case 0x010C:
+        return left < 3 ? 22 : jump(m, word, counter);
+    case 0x0188:
+        if (left < 4)
+            return 22;
+        clear(m, (uint8_t)word[1]);
+        *counter += 4;
+        return 0;
+    default:
+        return 21;
+    }
+}
+
+struct afgis_answer plain_run(const uint16_t *list, size_t words, uint8_t *screen, size_t bytes,
+                              struct afgis_env *env, uint32_t budget)
+{
+    struct machine m = { list, words, screen, env, drawable(env) };
+    struct afgis_answer answer = { 1, 0 };
+    uint32_t counter = env->counter;
+
+    if (bytes != (size_t)env->width * env->height) {
+        answer.number = 11;
+        return answer;
+    }
+    while (env->state == 0 && answer.steps < budget) {
+        int refusal = carry_out(&m, &counter);
+        if (refusal == 0)
+            answer.steps++;
+        else
+            env->state = (uint8_t)refusal;
+    }
+    env->counter = counter;
+    if (env->state != 0)
+        answer.number = env->state == 1 ? 0 : env->state;
+    return answer;
+}

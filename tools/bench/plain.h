@@ -1,0 +1,11 @@
+/* A plain C interpreter of the opcodes that the benchmark uses, written for speed as far as plain code goes. */
+#ifndef PLAIN_H
+#define PLAIN_H
+
+#include "afgis.h"
+
+/* As afgis_run, for INCV, CPIV, JUMPR, LINE, PIXEL, CLRWIN and EODL; the environment is a good one. */
+struct afgis_answer plain_run(const uint16_t *list, size_t words, uint8_t *screen, size_t bytes,
+                              struct afgis_env *env, uint32_t budget);
+
+#endif

@@ -1,0 +1,62 @@
+/* One call of ovenlute_run with all that it is given, and the kinds of things that it was made of. */
+#ifndef CALL_H
+#define CALL_H
+
+#include "env.h"
+
+enum { MOST_WORDS = 65536, MOST_STEPS = 1000000, MOST_SIDE = 2048 };
+
+/* Room for lists and screens somewhat longer than any that is allowed. */
+enum { LIST_ROOM = MOST_WORDS + 64, SCREEN_ROOM = MOST_SIDE * MOST_SIDE + 4 * MOST_SIDE };
+
+/* Whatever is counted belongs to one of these groups; a call has at most one member of each. */
+enum group {
+    CALLS, LISTS, ENVIRONMENTS, BROKEN_FIELDS, SIZES, PANES, WINDOWS, MODES, BUDGETS, SCREENS,
+    DOOR_PAIRS, OPCODE_PAIRS, FRESH_CALLS, NUMBERS,
+    GROUPS
+};
+
+enum { CALL_WHOLE, CALL_SLICE, CALL_MIXED, CALL_ALONE, CALL_KINDS };
+
+enum {
+    LIST_EMPTY, LIST_OPCODE_WORD, LIST_RANDOM, LIST_VALID, LIST_DAMAGED, LIST_LOOP, LIST_ENDLESS, LIST_CALLS,
+    LIST_LONGEST, LIST_TOO_LONG, LIST_PAST_32_BITS, LIST_TWO_REFUSALS,
+    LIST_KINDS
+};
+
+enum { ENV_FRESH, ENV_MID_RUN, ENV_CONTINUED, ENV_STOPPED, ENV_ENDED, ENV_BROKEN, ENV_KINDS };
+
+enum { SIZE_DOT, SIZE_SMALL, SIZE_MIDDLE, SIZE_LONG, SIZE_FULL, SIZE_KINDS };
+
+enum { PANE_WHOLE, PANE_PART, PANE_STRIP, PANE_DOT, PANE_KINDS };
+
+enum {
+    WINDOW_WHOLE, WINDOW_PART, WINDOW_DOT, WINDOW_EMPTY, WINDOW_OUTSIDE, WINDOW_WIDEST, WINDOW_ANY, WINDOW_KINDS
+};
+
+enum {
+    BUDGET_NONE, BUDGET_ONE, BUDGET_FEW, BUDGET_ENOUGH, BUDGET_BEFORE_REFUSAL, BUDGET_LIMIT, BUDGET_ABOVE,
+    BUDGET_KINDS
+};
+
+enum { SCREEN_RIGHT, SCREEN_SHORT, SCREEN_ONE_MORE, SCREEN_NONE, SCREEN_OTHER, SCREEN_PAST_32_BITS, SCREEN_KINDS };
+
+enum { FRESH_GOOD, FRESH_BAD_SIZE, FRESH_BAD_PANE, FRESH_BOTH_BAD, FRESH_KINDS };
+
+enum { NOT_OF_A_KIND = -1, NO_EXPECTATION = -1 };
+
+struct call {
+    uint16_t list[LIST_ROOM];
+    size_t words;
+    uint8_t screen[SCREEN_ROOM];
+    size_t bytes;
+    struct ovenlute_env env;
+    uint32_t budget;
+    int expected;        /* the number that must come back where the maker knows it */
+    int kinds[GROUPS];
+};
+
+/* Copies all that counts, no more of list and screen than there is. */
+void copy_call(struct call *to, const struct call *from);
+
+#endif

@@ -1,0 +1,291 @@
+/*
+ * Runs the box (include/ovenlute.h) and the reference (reference/afgis.c) on the same calls, made at
+ * random from a seed, and compares every answer whole. Exit status 1 on a difference or a kind never met.
+ */
+
+#include "count.h"
+#include "judge.h"
+#include "libc.h"
+#include "make.h"
+#include "random.h"
+#include "shrink.h"
+
+enum { DEFAULT_SEED = 1, DEFAULT_CALLS = 500000, DIFFERENCES_SHOWN = 3, MOST_SLICES = 1000 };
+
+static unsigned long long differences;
+
+/* Counts a difference; true for the first few, which are shown. */
+static int is_shown(void)
+{
+    differences++;
+    return differences <= DIFFERENCES_SHOWN;
+}
+
+/* ---- one call ---- */
+
+static void show_smallest(const struct call *call)
+{
+    static struct call smallest;
+
+    copy_call(&smallest, call);
+    shrink(&smallest);
+    print_difference(&smallest);
+}
+
+static void check_call(const struct call *call, struct verdict *verdict)
+{
+    judge(call, verdict);
+    count_call(call, verdict->box.number);
+    if (verdict->difference != NULL && is_shown()) {
+        show_smallest(call);
+        judge(call, verdict);
+    }
+}
+
+static void check_whole_call(void)
+{
+    static struct call call;
+    struct verdict verdict;
+
+    make_call(&call);
+    check_call(&call, &verdict);
+}
+
+/* "Everything else is 21": each of the 65,536 words as an opcode. */
+static void check_opcode_words(void)
+{
+    static struct call call;
+    struct verdict verdict;
+
+    for (uint32_t word = 0; word < 65536; word++) {
+        make_opcode_word_call(&call, (uint16_t)word);
+        check_call(&call, &verdict);
+    }
+}
+
+static void check_fresh(void)
+{
+    struct request request;
+    const struct ovenlute_pane *pane = &request.pane;
+    const char *difference;
+    int number;
+
+    make_request(&request);
+    difference = judge_fresh(&request, &number);
+    count_kind(FRESH_CALLS, request.kind);
+    if (difference != NULL && is_shown())
+        printf("difference: %s; fresh of %u x %u, pane %u %u %u %u, the box's number is %d\n", difference,
+               (unsigned)request.width, (unsigned)request.height, (unsigned)pane->left, (unsigned)pane->top,
+               (unsigned)pane->right, (unsigned)pane->bottom, number);
+}
+
+/* The call goes on from what the box left. */
+static void go_on(struct call *call, const struct verdict *verdict)
+{
+    call->env = verdict->box.env;
+    memcpy(call->screen, verdict->box.screen, call->bytes);
+    call->kinds[ENVIRONMENTS] = ENV_CONTINUED;
+}
+
+/* ---- slices ---- */
+
+static void set_slice(struct call *call, uint32_t budget)
+{
+    call->budget = budget;
+    call->kinds[BUDGETS] = budget == 0 ? BUDGET_NONE : budget == 1 ? BUDGET_ONE : BUDGET_FEW;
+}
+
+/* Runs the call in slices to its end or its budget's; returns the last number and all steps. */
+static struct afgis_answer run_in_slices(struct call *call)
+{
+    struct afgis_answer sum = { 1, 0 };
+    uint32_t budget = call->budget;
+    struct verdict verdict;
+
+    for (int slices = 0; sum.number == 1 && sum.steps < budget && slices < MOST_SLICES; slices++) {
+        uint32_t slice = below(6);
+        set_slice(call, slice < budget - sum.steps ? slice : budget - sum.steps);
+        check_call(call, &verdict);
+        sum.number = verdict.box.number;
+        sum.steps += verdict.box.steps;
+        go_on(call, &verdict);
+    }
+    return sum;
+}
+
+/* The slices together came to the same as the whole. */
+static int came_to_the_same(struct afgis_answer sum, const struct call *sliced, const struct outcome *whole)
+{
+    return sum.number == whole->number && sum.steps == whole->steps && same_env(&sliced->env, &whole->env)
+        && memcmp(sliced->screen, whole->screen, sliced->bytes) == 0;
+}
+
+/* A run in slices must come to the same as the run in one call. */
+static void check_slices(void)
+{
+    static struct call whole, sliced;
+    struct verdict verdict;
+    struct afgis_answer sum;
+
+    make_good_call(&whole);
+    whole.budget = (uint32_t)between(9, 60);
+    whole.kinds[BUDGETS] = BUDGET_ENOUGH;
+    copy_call(&sliced, &whole);
+    sliced.kinds[CALLS] = CALL_SLICE;
+    sum = run_in_slices(&sliced);
+    check_call(&whole, &verdict);
+    if (!came_to_the_same(sum, &sliced, &verdict.box) && is_shown()) {
+        printf("difference: slices and one call\n");
+        print_difference(&whole);
+    }
+}
+
+/* ---- two panes on one screen ---- */
+
+/* A list and its environment, once on the screen that both sides share, once on a screen of its own. */
+struct side {
+    struct call mixed, alone;
+};
+
+static int is_inside(const struct ovenlute_pane *pane, uint32_t x, uint32_t y)
+{
+    return pane->left <= x && x <= pane->right && pane->top <= y && y <= pane->bottom;
+}
+
+/* One call by one side, on both screens: number, steps and environment must be the same. */
+static int step_side(struct side *side, struct side *other, uint32_t budget)
+{
+    struct verdict verdict;
+    int number;
+    uint32_t steps;
+
+    set_slice(&side->mixed, budget);
+    set_slice(&side->alone, budget);
+    check_call(&side->mixed, &verdict);
+    number = verdict.box.number;
+    steps = verdict.box.steps;
+    go_on(&side->mixed, &verdict);
+    memcpy(other->mixed.screen, side->mixed.screen, side->mixed.bytes);
+    check_call(&side->alone, &verdict);
+    go_on(&side->alone, &verdict);
+    return number == verdict.box.number && steps == verdict.box.steps && same_env(&side->mixed.env, &side->alone.env);
+}
+
+/* In one pane only: as that side alone left it. In none: as before. In both: either may have painted last. */
+static int screens_agree(const struct side *a, const struct side *b, const uint8_t *before)
+{
+    const struct ovenlute_bounds *bounds = &a->mixed.env.bounds;
+    size_t i = 0;
+
+    for (uint32_t y = 0; y < bounds->height; y++)
+        for (uint32_t x = 0; x < bounds->width; x++, i++) {
+            int in_a = is_inside(&bounds->pane, x, y);
+            int in_b = is_inside(&b->mixed.env.bounds.pane, x, y);
+            uint8_t wanted = in_a ? a->alone.screen[i] : in_b ? b->alone.screen[i] : before[i];
+            if (!(in_a && in_b) && a->mixed.screen[i] != wanted)
+                return 0;
+        }
+    return 1;
+}
+
+static void start_side(struct side *side)
+{
+    side->mixed.kinds[CALLS] = CALL_MIXED;
+    copy_call(&side->alone, &side->mixed);
+    side->alone.kinds[CALLS] = CALL_ALONE;
+}
+
+/* Calls of two lists mixed at random must come to the same as each list by itself. */
+static void check_two_panes(void)
+{
+    static struct side a, b;
+    static uint8_t before[SCREEN_ROOM];
+    int agree = 1;
+
+    make_good_call(&a.mixed);
+    make_good_call(&b.mixed);
+    make_two_panes(&a.mixed, &b.mixed);
+    memcpy(before, a.mixed.screen, a.mixed.bytes);
+    start_side(&a);
+    start_side(&b);
+    for (int i = 0; i < 12; i++)
+        agree &= one_in(2) ? step_side(&a, &b, below(9)) : step_side(&b, &a, below(9));
+    if (!(agree && screens_agree(&a, &b, before)) && is_shown()) {
+        printf("difference: two panes mixed and each alone\n");
+        print_difference(&a.mixed);
+        print_difference(&b.mixed);
+    }
+}
+
+/* ---- lengths past 32 bits ---- */
+
+static const size_t PAST_32_BITS = (size_t)1 << 32;
+
+/* A call that must be refused at the door with this number; its list and screen can only be read. */
+static void check_huge_call(const struct call *call, uint8_t *room, size_t words, size_t bytes, int number)
+{
+    const uint16_t *list = (const uint16_t *)room;
+    uint8_t *screen = room + 3 * PAST_32_BITS;
+    struct ovenlute_env env = call->env;
+    struct ovenlute_done done = ovenlute_run(list, words, screen, bytes, &env, call->budget);
+    struct afgis_env reference_env;
+    struct afgis_answer answer;
+    int is_right;
+
+    to_reference(&call->env, &reference_env);
+    answer = afgis_run(list, words, screen, bytes, &reference_env, call->budget);
+    count_call(call, done.number);
+    is_right = done.number == number && done.steps == 0 && same_env(&env, &call->env) && answer.number == number;
+    if (!is_right && is_shown())
+        printf("difference: %llu words and %llu bytes: box %d, reference %d, wanted %d\n", (unsigned long long)words,
+               (unsigned long long)bytes, done.number, answer.number, number);
+}
+
+/* Lengths whose low 32 bits alone would be right. */
+static void check_huge_lengths(void)
+{
+    static struct call call;
+    size_t room_bytes = 5 * PAST_32_BITS;
+    void *room = mmap(NULL, room_bytes, PROT_READ, MAP_PRIVATE | MAP_ANONYMOUS | MAP_NORESERVE, -1, 0);
+
+    if (room == MAP_FAILED)
+        return;
+    make_good_call(&call);
+    call.kinds[LISTS] = LIST_PAST_32_BITS;
+    check_huge_call(&call, room, call.words + PAST_32_BITS, call.bytes, 13);
+    make_good_call(&call);
+    call.kinds[SCREENS] = SCREEN_PAST_32_BITS;
+    check_huge_call(&call, room, call.words, call.bytes + PAST_32_BITS, 11);
+    munmap(room, room_bytes);
+}
+
+/* ---- the whole run ---- */
+
+static void check_something(void)
+{
+    if (one_in(20))
+        check_fresh();
+    else if (one_in(30))
+        check_slices();
+    else if (one_in(120))
+        check_two_panes();
+    else
+        check_whole_call();
+}
+
+int main(int count, char **arguments)
+{
+    unsigned long long seed = count > 1 ? strtoull(arguments[1], NULL, 10) : DEFAULT_SEED;
+    unsigned long long calls = count > 2 ? strtoull(arguments[2], NULL, 10) : DEFAULT_CALLS;
+    int never;
+
+    random_seed(seed);
+    check_opcode_words();
+    check_huge_lengths();
+    while (calls_counted() < calls)
+        check_something();
+    never = print_counts();
+    printf("seed %llu, %llu calls, %llu differences, %d kinds never met\n", seed,
+           (unsigned long long)calls_counted(), differences, never);
+    return differences != 0 || never != 0;
+}

@@ -1,0 +1,154 @@
+#include "count.h"
+#include "forms.h"
+#include "libc.h"
+
+enum { MOST_MEMBERS = 20, STEPS_FOLLOWED = 200 };
+
+static const struct {
+    const char *title;
+    const char *members[MOST_MEMBERS];
+} groups[GROUPS] = {
+    [CALLS] = { "calls", { "whole", "slice", "two panes mixed", "one pane alone" } },
+    [LISTS] = { "lists", { "empty", "each opcode word", "random words", "valid opcodes", "one word damaged", "loops",
+                           "endless loops", "calls near the limits", "longest", "too long", "2^32 words too long",
+                           "two refusals at once" } },
+    [ENVIRONMENTS] = { "environments", { "fresh", "mid-run", "continued", "stopped", "ended", "broken" } },
+    [BROKEN_FIELDS] = { "broken fields", { "width", "height", "left", "top", "right", "bottom", "x", "y", "x0", "y0",
+                                           "x1", "y1", "mode", "counter", "depth", "stack", "state" } },
+    [SIZES] = { "screen sizes", { "one dot", "small", "middle", "a side of 2048", "2048 x 2048" } },
+    [PANES] = { "panes", { "whole screen", "part", "one row or column", "one dot" } },
+    [WINDOWS] = { "windows", { "whole screen", "part", "one dot", "empty", "outside", "widest", "any words" } },
+    [MODES] = { "clip modes", { "0", "1", "2" } },
+    [BUDGETS] = { "budgets", { "0", "1", "2 to 8", "9 to 200", "up to a refusal", "1000000", "above" } },
+    [SCREENS] = { "screen lengths", { "right", "one short", "one more", "none", "other", "2^32 more" } },
+    [DOOR_PAIRS] = { "door pairs", { "10+11", "10+12", "10+13", "10+14", "11+12", "11+13", "11+14", "12+13", "12+14",
+                                     "13+14" } },
+    [OPCODE_PAIRS] = { "opcode pairs", { "22+23", "22+24", "22+25", "22+26", "22+28", "23+24", "23+25", "23+26",
+                                         "23+28", "24+25", "24+27", "27+28" } },
+    [FRESH_CALLS] = { "fresh", { "good", "bad size", "bad pane", "both bad" } },
+    [NUMBERS] = { "numbers", { "0", "1", "10", "11", "12", "13", "14", "20", "21", "22", "23", "24", "25", "26", "27",
+                               "28", "29" } },
+};
+
+static uint64_t kinds_met[GROUPS][MOST_MEMBERS];
+
+/* Per form: how often carried out, and how often refused with 20 to 29. */
+static uint64_t forms_done[FORMS];
+static uint64_t forms_refused[FORMS][10];
+
+void count_kind(enum group group, int member)
+{
+    kinds_met[group][member]++;
+}
+
+/* A number that the paper doesn't know is no kind; it will be a difference. */
+static void count_number(int number)
+{
+    if (number == 0 || number == 1)
+        count_kind(NUMBERS, number);
+    else if (number >= 10 && number <= 14)
+        count_kind(NUMBERS, number - 10 + 2);
+    else if (number >= 20 && number <= 29)
+        count_kind(NUMBERS, number - 20 + 7);
+}
+
+static void count_form(uint16_t opcode, struct afgis_answer answer)
+{
+    int form = form_of(opcode);
+
+    if (form < 0)
+        return;
+    if (answer.steps == 1)
+        forms_done[form]++;
+    else if (answer.number >= 20)
+        forms_refused[form][answer.number - 20]++;
+}
+
+/* Goes the call's way once more with the reference, step by step. */
+static void count_forms(const struct call *call)
+{
+    static uint8_t scratch[SCREEN_ROOM];
+    struct afgis_env env;
+    struct afgis_answer answer = { 1, 1 };
+
+    to_reference(&call->env, &env);
+    for (uint32_t step = 0; answer.number == 1 && step < call->budget && step < STEPS_FOLLOWED; step++) {
+        uint32_t counter = env.counter;
+        answer = afgis_run(call->list, call->words, scratch, call->bytes, &env, 1);
+        if (counter < call->words)
+            count_form(call->list[counter], answer);
+    }
+}
+
+void count_call(const struct call *call, int number)
+{
+    for (enum group group = 0; group < GROUPS; group++)
+        if (call->kinds[group] != NOT_OF_A_KIND)
+            count_kind(group, call->kinds[group]);
+    count_number(number);
+    if ((number < 10 || number >= 20) && call->env.registers.state == RUNNING)
+        count_forms(call);
+}
+
+static uint64_t sum(enum group group)
+{
+    uint64_t total = 0;
+
+    for (int i = 0; i < MOST_MEMBERS; i++)
+        total += kinds_met[group][i];
+    return total;
+}
+
+uint64_t calls_counted(void)
+{
+    return sum(CALLS) + sum(FRESH_CALLS);
+}
+
+static int print_group(enum group group)
+{
+    int never = 0;
+
+    printf("%s:", groups[group].title);
+    for (int i = 0; i < MOST_MEMBERS && groups[group].members[i]; i++) {
+        printf("%s %s %llu", i == 0 ? "" : ",", groups[group].members[i], (unsigned long long)kinds_met[group][i]);
+        never += kinds_met[group][i] == 0;
+    }
+    printf("\n");
+    return never;
+}
+
+static void print_cell(int is_possible, uint64_t met)
+{
+    if (is_possible || met != 0)
+        printf(" %8llu", (unsigned long long)met);
+    else
+        printf(" %8s", "-");
+}
+
+/* One form's row: what it can meet must have been met. */
+static int print_form(int form)
+{
+    int never = forms_done[form] == 0;
+
+    printf("%-10s", forms[form].name);
+    print_cell(1, forms_done[form]);
+    for (int digit = 2; digit <= 9; digit++) {
+        int is_possible = strchr(forms[form].refusals, '0' + digit) != NULL;
+        print_cell(is_possible, forms_refused[form][digit]);
+        never += is_possible && forms_refused[form][digit] == 0;
+    }
+    printf("\n");
+    return never;
+}
+
+int print_counts(void)
+{
+    int never = 0;
+
+    for (enum group group = 0; group < GROUPS; group++)
+        never += print_group(group);
+    printf("%-10s %8s %8d %8d %8d %8d %8d %8d %8d %8d\n", "form", "done", 22, 23, 24, 25, 26, 27, 28, 29);
+    for (int form = 0; form < FORMS; form++)
+        never += print_form(form);
+    return never;
+}

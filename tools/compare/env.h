@@ -1,0 +1,34 @@
+/* The environment of include/ovenlute.h field by field, and its way to the reference's and back. */
+#ifndef ENV_H
+#define ENV_H
+
+#include "afgis.h"
+#include "ovenlute.h"
+
+/* Every field but the variables and the stack. */
+enum field {
+    WIDTH, HEIGHT, LEFT, TOP, RIGHT, BOTTOM,
+    POSITION_X, POSITION_Y, WINDOW_X0, WINDOW_Y0, WINDOW_X1, WINDOW_Y1,
+    MODE, FIRST, SECOND, COUNTER, DEPTH, COLOUR, STATE,
+    FIELDS
+};
+
+enum { VARIABLES = 64, RETURNS = 16, RUNNING = 0, HAS_ENDED = 1 };
+
+const char *field_name(enum field field);
+int64_t get_field(const struct ovenlute_env *env, enum field field);
+void set_field(struct ovenlute_env *env, enum field field, int64_t value);
+
+/* How many stacked indices count: none past the depth. */
+uint32_t stacked(const struct ovenlute_env *env);
+
+/* True when every field that is part of the environment is the same. */
+int same_env(const struct ovenlute_env *a, const struct ovenlute_env *b);
+
+/* The fresh environment of a good size and pane. */
+void fresh_env(struct ovenlute_env *env, uint32_t width, uint32_t height, struct ovenlute_pane pane);
+
+void to_reference(const struct ovenlute_env *from, struct afgis_env *to);
+void from_reference(const struct afgis_env *from, struct ovenlute_env *to);
+
+#endif

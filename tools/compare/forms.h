@@ -1,0 +1,27 @@
+/* The 47 forms of document 01's base, as the makers of lists and the counts need them. */
+#ifndef FORMS_H
+#define FORMS_H
+
+#include <stdint.h>
+
+/*
+ * Letters: l long, w word, v variable number, i number of the first of several variables,
+ * c condition, a bit address (long), r offset in words, m mode, t line type,
+ * x and y coordinates, d offset in dots, o colour (long).
+ */
+struct form {
+    uint16_t opcode;
+    const char *name;
+    const char *operands;  /* the operand words in the list */
+    const char *implied;   /* V forms: what the variables from i on hold */
+    const char *refusals;  /* which of 22 to 29 it can meet: their last digits */
+};
+
+enum { FORMS = 47 };
+
+extern const struct form forms[FORMS];
+
+/* The form's place in the table, or -1. */
+int form_of(uint16_t opcode);
+
+#endif

@@ -1,0 +1,25 @@
+/* Runs the box and the reference on the same call and compares the whole answers. */
+#ifndef JUDGE_H
+#define JUDGE_H
+
+#include "call.h"
+#include "make.h"
+
+struct outcome {
+    int number;
+    uint32_t steps;
+    struct ovenlute_env env;
+    const uint8_t *screen;  /* as many bytes as the call has; kept until the next call is judged */
+};
+
+struct verdict {
+    struct outcome box, reference;
+    const char *difference;  /* what is wrong, or NULL */
+};
+
+void judge(const struct call *call, struct verdict *verdict);
+
+/* What is wrong about ovenlute_fresh's answer, or NULL; sets the box's number. */
+const char *judge_fresh(const struct request *request, int *number);
+
+#endif

@@ -1,0 +1,183 @@
+#include "libc.h"
+#include "make.h"
+#include "random.h"
+
+/* ---- budgets and screens ---- */
+
+static void set_budget(struct call *call, int kind, uint32_t budget)
+{
+    call->kinds[BUDGETS] = kind;
+    call->budget = budget;
+}
+
+/* The limit itself only where the run can't go in circles that paint. */
+static void make_budget(struct call *call, int is_straight)
+{
+    if (call->kinds[LISTS] == LIST_ENDLESS || (is_straight && one_in(8)))
+        set_budget(call, BUDGET_LIMIT, MOST_STEPS);
+    else if (one_in(24))
+        set_budget(call, BUDGET_NONE, 0);
+    else if (one_in(12))
+        set_budget(call, BUDGET_ONE, 1);
+    else if (one_in(3))
+        set_budget(call, BUDGET_FEW, (uint32_t)between(2, 8));
+    else
+        set_budget(call, BUDGET_ENOUGH, (uint32_t)between(9, one_in(4) ? 200 : 40));
+}
+
+static size_t good_bytes(const struct call *call)
+{
+    return (size_t)call->env.bounds.width * call->env.bounds.height;
+}
+
+static void fill_screen(struct call *call)
+{
+    uint32_t byte = random_bits();
+
+    for (size_t i = 0; i < call->bytes; i++)
+        call->screen[i] = (uint8_t)(byte += 37);
+}
+
+/* ---- refusals at the door ---- */
+
+static void make_bad_budget(struct call *call)
+{
+    static const uint32_t budgets[] = { MOST_STEPS + 1, MOST_STEPS + 2, 0x80000000, UINT32_MAX };
+
+    set_budget(call, BUDGET_ABOVE, budgets[below(4)]);
+}
+
+static void make_too_long(struct call *call)
+{
+    call->kinds[LISTS] = LIST_TOO_LONG;
+    call->words = MOST_WORDS + 1 + below(LIST_ROOM - MOST_WORDS);
+}
+
+static void make_bad_bytes(struct call *call)
+{
+    size_t good = call->bytes;
+
+    call->kinds[SCREENS] = between(SCREEN_SHORT, SCREEN_OTHER);
+    switch (call->kinds[SCREENS]) {
+    case SCREEN_SHORT:
+        call->bytes = good - 1;
+        break;
+    case SCREEN_ONE_MORE:
+        call->bytes = good + 1;
+        break;
+    case SCREEN_NONE:
+        call->bytes = 0;
+        break;
+    default:
+        call->bytes = good + call->env.bounds.width + 1;
+    }
+}
+
+/* Breaks what one number of 10 to 14 tells of. */
+static void break_by(struct call *call, int number)
+{
+    switch (number) {
+    case 10:
+        break_size(call);
+        break;
+    case 11:
+        make_bad_bytes(call);
+        break;
+    case 12:
+        break_field(call);
+        break;
+    case 13:
+        make_too_long(call);
+        break;
+    default:
+        make_bad_budget(call);
+    }
+}
+
+/* After a broken size the screen has as many bytes as it says, where there is room for them. */
+static void follow_size(struct call *call)
+{
+    if (good_bytes(call) <= 16 * MOST_SIDE)
+        call->bytes = good_bytes(call);
+}
+
+/* The pair's place among "10+11", "10+12" and so on to "13+14". */
+static int door_pair(int lower, int higher)
+{
+    static const int first_with[] = { 0, 4, 7, 9 };
+
+    return first_with[lower - 10] + higher - lower - 1;
+}
+
+/* The higher one first, so that a pane is broken while the size is still good. */
+static void make_door_pair(struct call *call)
+{
+    int lower = between(10, 13);
+    int higher = between(lower + 1, 14);
+
+    break_by(call, higher);
+    break_by(call, lower);
+    call->expected = lower;
+    call->kinds[DOOR_PAIRS] = door_pair(lower, higher);
+}
+
+static void make_door_refusal(struct call *call)
+{
+    int number = between(10, 14);
+
+    break_by(call, number);
+    if (number == 10)
+        follow_size(call);
+    call->expected = number;
+}
+
+/* ---- whole calls ---- */
+
+static void start_call(struct call *call)
+{
+    call->expected = NO_EXPECTATION;
+    for (enum group group = 0; group < GROUPS; group++)
+        call->kinds[group] = NOT_OF_A_KIND;
+    call->kinds[CALLS] = CALL_WHOLE;
+    call->kinds[SCREENS] = SCREEN_RIGHT;
+}
+
+static void make_allowed_call(struct call *call)
+{
+    int is_far = one_in(40);
+    int is_straight;
+
+    start_call(call);
+    make_env(call, is_far);
+    is_straight = make_list(call, is_far);
+    make_budget(call, is_straight);
+    call->bytes = good_bytes(call);
+}
+
+void make_call(struct call *call)
+{
+    make_allowed_call(call);
+    if (one_in(16))
+        make_door_pair(call);
+    else if (one_in(16))
+        make_door_refusal(call);
+    else if (one_in(8))
+        make_two_refusals(call);
+    fill_screen(call);
+}
+
+void make_good_call(struct call *call)
+{
+    do
+        make_allowed_call(call);
+    while (call->env.registers.state != RUNNING || call->kinds[LISTS] == LIST_ENDLESS);
+    fill_screen(call);
+}
+
+void make_opcode_word_call(struct call *call, uint16_t word)
+{
+    make_good_call(call);
+    make_list_of_word(call, word);
+    call->env.registers.counter = 0;
+    set_budget(call, BUDGET_FEW, 4);
+}

@@ -1,0 +1,52 @@
+/* Makes calls at random: of every kind, with values near every edge. */
+#ifndef MAKE_H
+#define MAKE_H
+
+#include "call.h"
+
+/* What ovenlute_fresh is given, and what it was made to be. */
+struct request {
+    uint32_t width, height;
+    struct ovenlute_pane pane;
+    int kind;
+};
+
+/* A call of any kind, also one to be refused at the door. */
+void make_call(struct call *call);
+
+/* A call that no door refuses, its environment running. */
+void make_good_call(struct call *call);
+
+/* A good call whose list begins with this word. */
+void make_opcode_word_call(struct call *call, uint16_t word);
+
+void make_request(struct request *request);
+
+/* Gives two calls the same screen and a pane each, mostly apart, at times overlapping. */
+void make_two_panes(struct call *a, struct call *b);
+
+/* ---- between the files that make calls ---- */
+
+/* A value near an edge of a word, a long or a variable number. */
+int32_t edge_value(void);
+
+/* A coordinate for a screen side of this length: mostly on the screen or close by. */
+int32_t make_coordinate(uint32_t side, int is_far);
+
+/* Screen size, pane, window and all other fields in range; `is_far` allows points far off the screen. */
+void make_env(struct call *call, int is_far);
+
+/* Sets a field out of range that 12 tells of, or the size that 10 tells of. */
+void break_size(struct call *call);
+void break_field(struct call *call);
+
+/* A list; also sets counter and stack where the environment isn't fresh. True when the run can't go in circles. */
+int make_list(struct call *call, int is_far);
+
+/* A list of this word, zeros and EODL. */
+void make_list_of_word(struct call *call, uint16_t word);
+
+/* A list that meets two refusals at once, and the environment for it; sets budget and expectation. */
+void make_two_refusals(struct call *call);
+
+#endif

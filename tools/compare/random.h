@@ -1,0 +1,21 @@
+/* A small random generator, so that a seed gives the same calls on every machine. */
+#ifndef RANDOM_H
+#define RANDOM_H
+
+#include <stdint.h>
+
+void random_seed(uint64_t seed);
+
+/* Any 32 bits. */
+uint32_t random_bits(void);
+
+/* 0 to limit - 1. */
+uint32_t below(uint32_t limit);
+
+/* low to high, both ends possible. */
+int32_t between(int32_t low, int32_t high);
+
+/* True once in `times` on average. */
+int one_in(uint32_t times);
+
+#endif
