@@ -1,3 +1,4 @@
+-- What the proofs of act's functions cite.
 pub mod Acting
 pub mod ValueLaws
 pub mod ConditionLaws

@@ -49,12 +49,12 @@ sum-judged p d q is px py qx qy = rw (same (p .x) px, same (p .y) py, same (q .x
     same : (z : ℤ) → mag z < 2 ^ 31 → held z ≡ z
     same z h = toZ-ofZ {w = w32} (record { sfits = h })
 
--- a point that is not far has coordinates for raster
+-- ---- what raster draws: a signed word is a coordinate, and a point that is not far has two
+pub coord : (z : ℤ) → inWord z ≡ true → Coord z
+coord z e = record { small = omega (arith, within-mag z e) }
+
 pub near : (p : Dot) → far p ≡ false → Near p
 near p e = let t = not-false (inWord (p .x) && inWord (p .y)) e in (coord (p .x) (one _ _ t), coord (p .y) (other (inWord (p .x)) _ t))
-  where
-    coord : (z : ℤ) → inWord z ≡ true → Coord z
-    coord z q = record { small = omega (arith, within-mag z q) }
 
 -- ---- what the answer r tells of the point p
 module _ {r : Point} (out : Bool) (p : Dot) (is : r ≡ unless out p) where

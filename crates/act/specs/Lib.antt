@@ -1,3 +1,4 @@
+-- What the contracts of act cite.
 pub mod Shown
 pub mod Contracts
 pub mod Conditions

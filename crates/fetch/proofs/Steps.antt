@@ -23,12 +23,9 @@ use Rattle.fetch.specs.declared.fetch.Fetched.the-variants.{Refused, Got
 use Rattle.fetch.specs.Stages.{takenOf, early, with-operands, fetchForm, fetchOf}
 
 module _ (w : List ℕ) (e : Env) where
-  abbrev acted : Op → Operands → ℕ → Outcome Env
-  acted op o next = carried (rule op o (length w) (goto next e)) (goto next e)
-
   abbrev resolved : Fetched → Outcome Env
   resolved (Refused v) = refused v
-  resolved (Got op o next) = acted op o (next .0)
+  resolved (Got op o next) = carried (rule op o (length w) (goto (next .0) e)) (goto (next .0) e)
 
   checked : (n : ℕ) (b : Bool) (x : Outcome Env) (y : Fetched) → x ≡ resolved y → check n b x ≡ resolved (early n b y)
   checked n true x y h = refl

@@ -1,6 +1,6 @@
 -- Operands by the pieces that they come from: refused where a variable named or implied is above 63, else read.
 use Prim.Native.Nat.{ℕ, zero, suc, _+_, _<_, _≤_, max}
-use mathlib.Core.Path.{_≡_, refl, ap}
+use mathlib.Core.Path.{_≡_, refl, ap, _∙_}
 use mathlib.Core.Bool.{Bool, true, false, cond}
 use mathlib.Core.List.{List, [], _∷_, append-nil}
 use native.Mathlib.Omega.{arith}
@@ -58,15 +58,21 @@ module _ (ps : List Piece) (w : List ℕ) (pc : ℕ) (vs : List ℕ) where
   unfolding takenOf
   fine h e = rw (le-ltb _ _ h, e)
 
-  -- a destination v, while no other variable is above 63
-  pub onto : (v a : ℕ) → v ≤ highest ps w pc 1 → highest ps w pc 1 ≤ max v 63
-      → gathered (a ∷ []) v ≡ gathered (values ps w pc 1 vs) (destination ps w pc 1) → ontoOf a (varOf v) ≡ takenOf ps w pc vs
+  -- at most three values
+  pub three : {a b c : ℕ} → highest ps w pc 1 ≤ 63 → let v = values ps w pc 1 vs in (a ≡ at v 0) × (b ≡ at v 1) × (c ≡ at v 2)
+      → gathered (at v 0 ∷ at v 1 ∷ at v 2 ∷ []) 0 ≡ gathered v (destination ps w pc 1)
+      → Got (record { a = a; b = b; c = c; d = 0; e = 0; dest = record { 0 = 0 } }) ≡ takenOf ps w pc vs
+  three h q r = fine h ((λ i. record { a = q .0 i; b = q .1 i; c = q .2 i; d = 0; e = 0; dest = record { 0 = 0 } }) ∙ r)
+
+  -- at most one value and a destination v, while no other variable is above 63
+  pub onto : {a : ℕ} (v : ℕ) → v ≤ highest ps w pc 1 → highest ps w pc 1 ≤ max v 63 → let x = at (values ps w pc 1 vs) 0 in a ≡ x
+      → gathered (x ∷ []) v ≡ gathered (values ps w pc 1 vs) (destination ps w pc 1) → ontoOf a (varOf v) ≡ takenOf ps w pc vs
   unfolding varOf
-  onto v a low high e = go (ltb 63 v) refl
+  onto {a} v low high q r = go (ltb 63 v) refl
     where
       go : (b : Bool) → ltb 63 v ≡ b → ontoOf a (cond b Above (Var (record { 0 = v }))) ≡ takenOf ps w pc vs
       go true p = over (omega (arith, ltb-true 63 v p))
-      go false p = fine (omega (arith, ltb-false 63 v p)) e
+      go false p = fine (omega (arith, ltb-false 63 v p)) (ap (λ (a : ℕ). gathered (a ∷ []) v) q ∙ r)
 
 pub from-variable : (n : ℕ) (w : List ℕ) (pc : ℕ) (vs : List ℕ) (v : ℕ) → v ≡ at w (pc + 1) → v ≤ 63 → v + n ≤ 64
     → Got (gathered (following n v 0 vs) 0) ≡ takenOf (from n ∷ []) w pc vs

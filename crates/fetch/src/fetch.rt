@@ -32,7 +32,8 @@ pub fn fetch(words: &[u16], pc: WordIndex, vars: &[u32; 64]) -> Fetched
         Form::Unknown => Fetched::Refused(Verdict { number: 21 }),
         Form::Known(op, s) => {
             let n = size(s);
-            if words.len() - at < n as usize {
+            let last = at + (n as usize - 1);
+            if words.len() <= last {
                 return Fetched::Refused(Verdict { number: 22 });
             }
             let t = take(s, words, pc, vars);

@@ -10,15 +10,15 @@ dot-at-spec =
     tie.close (tie.spec
     (λ c κs. search needs) (λ c. search needs) (λ c. search needs) (λ c κs. search needs)
     (λ c vs st.
-    let far = told-outside _ _ (c .before .before .before .point-of .ensures) (c .before .enum-told .given .1) in
-    stays _ _ _ {n = 25} (rw far) (rw (c .refused .ensures)))
+    let out = told-outside _ _ (c .before .before .before .point-of .ensures) (c .before .enum-told .given .1) in
+    stays _ _ _ {n = 25} (rw out) (rw (c .refused .ensures)))
     (λ c κs. search needs)
     (λ c κs.
-    let x = c .before .before .before in
-    let p = told-at _ _ (x .before .before .point-of .ensures) (x .p .given .1) in
-    (rw (c .frame .ensures) (x .before .before .before .before .pre .fitting), rw (p .1) (near _ (p .0))))
+    let at = c .before .before .before in
+    let p = told-at _ _ (at .before .before .point-of .ensures) (at .p .given .1) in
+    (rw (c .frame .ensures) (at .before .before .before .before .pre .fitting), rw (p .1) (near _ (p .0))))
     (λ c. search needs)
     (λ c vs st.
-    let x = c .before .before .before .before .before .before in
-    let p = told-at _ _ (x .before .before .point-of .ensures) (x .p .given .1) in
+    let at = c .before .before .before .before .before .before in
+    let p = told-at _ _ (at .before .before .point-of .ensures) (at .p .given .1) in
     goes _ _ _ (rw (p .0)) (rw (c .before .before .plot .ensures, c .before .before .before .frame .ensures, p .1))))

@@ -13,26 +13,26 @@ line-spec =
     (λ c n vs st. stays _ _ _ {n = 24} (rw (lt-ltb _ _ (c .before .if1 .taken))) (rw (c .refused .ensures)))
     (λ c κs. search needs) (λ c. search needs) (λ c. search needs) (λ c κs. search needs)
     (λ c n vs st.
-    let x = c .before .before .before in
-    let far = told-outside _ _ (x .point-of .ensures) (c .before .enum-told .given .1) in
-    stays _ _ _ {n = 25} (rw (le-ltb _ _ (x .before .if1 .left), far)) (rw (c .refused2 .ensures)))
+    let first = c .before .before .before in
+    let out = told-outside _ _ (first .point-of .ensures) (c .before .enum-told .given .1) in
+    stays _ _ _ {n = 25} (rw (le-ltb _ _ (first .before .if1 .left), out)) (rw (c .refused2 .ensures)))
     (λ c κs. search needs) (λ c. search needs) (λ c. search needs) (λ c κs. search needs)
     (λ c n vs st.
-    let y = c .before .before .before in
-    let x = y .before .before .before .before in
-    let p = told-at _ _ (x .point-of .ensures) (y .before .before .p .given .1) in
-    let far = told-outside _ _ (y .point-of2 .ensures) (c .before .enum-told2 .given .1) in
-    stays _ _ _ {n = 25} (rw (le-ltb _ _ (x .before .if1 .left), p .0, far)) (rw (c .refused3 .ensures)))
+    let second = c .before .before .before in
+    let first = second .before .before .before .before in
+    let p = told-at _ _ (first .point-of .ensures) (second .before .before .p .given .1) in
+    let out = told-outside _ _ (second .point-of2 .ensures) (c .before .enum-told2 .given .1) in
+    stays _ _ _ {n = 25} (rw (le-ltb _ _ (first .before .if1 .left), p .0, out)) (rw (c .refused3 .ensures)))
     (λ c κs.
-    let y = c .before .before .before .before in
-    let x = y .before .before .before .before in
-    let p = told-at _ _ (x .point-of .ensures) (y .before .before .p .given .1) in
-    let q = told-at _ _ (y .point-of2 .ensures) (c .before .before .q .given .1) in
-    (x .before .before .before .before .pre, (rw (p .1) (near _ (p .0)), rw (q .1) (near _ (q .0)))))
+    let second = c .before .before .before .before in
+    let first = second .before .before .before .before in
+    let p = told-at _ _ (first .point-of .ensures) (second .before .before .p .given .1) in
+    let q = told-at _ _ (second .point-of2 .ensures) (c .before .before .q .given .1) in
+    (first .before .before .before .before .pre, (rw (p .1) (near _ (p .0)), rw (q .1) (near _ (q .0)))))
     (λ c. search needs)
     (λ c n vs st.
-    let y = c .before .before .before .before .before .before .before in
-    let x = y .before .before .before .before in
-    let p = told-at _ _ (x .point-of .ensures) (y .before .before .p .given .1) in
-    let q = told-at _ _ (y .point-of2 .ensures) (c .before .before .before .before .before .q .given .1) in
-    goes _ _ _ (rw (le-ltb _ _ (x .before .if1 .left), p .0, q .0)) (rw (c .before .before .stroke .ensures, p .1, q .1))))
+    let second = c .before .before .before .before .before .before .before in
+    let first = second .before .before .before .before in
+    let p = told-at _ _ (first .point-of .ensures) (second .before .before .p .given .1) in
+    let q = told-at _ _ (second .point-of2 .ensures) (c .before .before .before .before .before .q .given .1) in
+    goes _ _ _ (rw (le-ltb _ _ (first .before .if1 .left), p .0, q .0)) (rw (c .before .before .stroke .ensures, p .1, q .1))))

@@ -13,16 +13,16 @@ line-to-spec =
     (λ c n vs st. stays _ _ _ {n = 24} (rw (lt-ltb _ _ (c .before .if1 .taken))) (rw (c .refused .ensures)))
     (λ c κs. search needs) (λ c. search needs) (λ c. search needs) (λ c κs. search needs)
     (λ c n vs st.
-    let x = c .before .before .before in
-    let far = told-outside _ _ (x .point-of .ensures) (c .before .enum-told .given .1) in
-    stays _ _ _ {n = 25} (rw (le-ltb _ _ (x .before .if1 .left), far)) (rw (c .refused2 .ensures)))
+    let at = c .before .before .before in
+    let out = told-outside _ _ (at .point-of .ensures) (c .before .enum-told .given .1) in
+    stays _ _ _ {n = 25} (rw (le-ltb _ _ (at .before .if1 .left), out)) (rw (c .refused2 .ensures)))
     (λ c κs.
-    let x = c .before .before .before in
-    let q = told-at _ _ (x .before .before .point-of .ensures) (x .q .given .1) in
-    let pre = x .before .before .before .before .before .before .pre in
+    let at = c .before .before .before in
+    let q = told-at _ _ (at .before .before .point-of .ensures) (at .q .given .1) in
+    let pre = at .before .before .before .before .before .before .pre in
     (pre, (pre .here, rw (q .1) (near _ (q .0)))))
     (λ c. search needs)
     (λ c n vs st.
-    let x = c .before .before .before .before .before .before in
-    let q = told-at _ _ (x .before .before .point-of .ensures) (x .q .given .1) in
-    goes _ _ _ (rw (le-ltb _ _ (x .before .before .before .if1 .left), q .0)) (rw (c .before .before .stroke .ensures, q .1))))
+    let at = c .before .before .before .before .before .before in
+    let q = told-at _ _ (at .before .before .point-of .ensures) (at .q .given .1) in
+    goes _ _ _ (rw (le-ltb _ _ (at .before .before .before .if1 .left), q .0)) (rw (c .before .before .stroke .ensures, q .1))))

@@ -11,8 +11,8 @@ move-to-spec =
     tie.close (tie.spec
     (λ c κs. search needs) (λ c. search needs) (λ c. search needs) (λ c κs. search needs)
     (λ c n b vs st s.
-    let far = told-outside _ _ (c .before .before .before .point-of .ensures) (c .before .enum-told .given .1) in
-    stays _ _ _ {n = 25} (rw far) (rw (c .refused .ensures)))
+    let out = told-outside _ _ (c .before .before .before .point-of .ensures) (c .before .enum-told .given .1) in
+    stays _ _ _ {n = 25} (rw out) (rw (c .refused .ensures)))
     (λ c n b vs st s.
     let p = told-at _ _ (c .before .before .before .point-of .ensures) (c .before .p .given .1) in
     turns _ _ _ (rw (p .0)) refl (rw (p .1))))

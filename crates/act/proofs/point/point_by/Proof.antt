@@ -12,10 +12,11 @@ point-by-spec =
     (λ c. no-offset (c .before .before .before .args .from) _ (told-outside _ _ (c .before .before .point-of .ensures) (c .enum-told .given .1)))
     (λ c κs. search needs) (λ c κs. search needs) (λ c κs. search needs)
     (λ c.
-    let x = c .before .before .before .before in
-    let q = x .before .before .before in
-    let from = x .before .before .struct-told .given in
-    let by = x .before .struct-told2 .given in
+    let at = c .before .before .before .before in
+    let q = at .before .before .before in
+    let from = at .before .before .struct-told .given in
+    let by = at .before .struct-told2 .given in
     let is = told-at _ _ (q .before .before .before .point-of .ensures) (q .before .d .given .1) in
     c .paired .ensures
-    ∙ rw (x .moved .ensures, c .before .moved2 .ensures) (sum-judged (q .before .before .before .before .args .from) _ _ is (from .0 .1) (from .1 .0 .1) (by .0 .1) (by .1 .0 .1))))
+    ∙ rw (at .moved .ensures, c .before .moved2 .ensures)
+    (sum-judged (q .before .before .before .before .args .from) _ _ is (from .0 .1) (from .1 .0 .1) (by .0 .1) (by .1 .0 .1))))

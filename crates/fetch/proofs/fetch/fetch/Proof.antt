@@ -19,6 +19,7 @@ fetch-spec =
     (λ c κs. search needs)
     (λ c. search needs)
     (λ c. search needs)
+    (λ c. search needs)
     (λ c. let p = c .before .before .before in is-22 _ _ _ (p .before .before .decode .ensures) (omega arith) (p .f .given .1) (omega arith))
     (λ c κs. search needs)
     (λ c. search needs)

@@ -1,9 +1,9 @@
 -- `take`: each arm reads the pieces of its source.
-use mathlib.Core.Path.{ap, _∙_}
+use mathlib.Core.Path.{refl, ap, _∙_}
 use native.Mathlib.Omega.{arith}
 use borrow.Author.Needs.{needs}
 use Rattle.rules.specs.Operands.{sizeOf}
-use Rattle.fetch.proofs.Taking.{fine, onto}
+use Rattle.fetch.proofs.Taking.{three, onto}
 use Rattle.fetch.proofs.source.take.Statement.{statement}
 use Rattle.fetch.proofs.source.take.Tie as tie
 
@@ -60,19 +60,19 @@ take-spec =
     (λ c. search needs)
     (λ c κs. omega (arith, ap sizeOf (c .enum-told19 .given .1)))
     (λ c. rw (c .before .enum-told .given .1) (c .plain .ensures _))
-    (λ c. rw (c .before .enum-told2 .given .1) (c .onto .ensures ∙ onto _ _ _ _ _ _ (omega arith) (omega arith) (cc)))
+    (λ c. rw (c .before .enum-told2 .given .1) (c .onto .ensures ∙ onto _ _ _ _ _ (omega arith) (omega arith) (search needs) refl))
     (λ c. rw (c .before .enum-told3 .given .1) (c .var-var .ensures))
-    (λ c. rw (c .before .before .enum-told4 .given .1) (c .onto2 .ensures ∙ onto _ _ _ _ _ _ (omega arith) (omega arith) (cc)))
-    (λ c. rw (c .before .before .enum-told5 .given .1) (c .onto3 .ensures ∙ onto _ _ _ _ _ _ (omega arith) (omega arith) (cc)))
+    (λ c. rw (c .before .before .enum-told4 .given .1) (c .onto2 .ensures ∙ onto _ _ _ _ _ (omega arith) (omega arith) (search needs) refl))
+    (λ c. rw (c .before .before .enum-told5 .given .1) (c .onto3 .ensures ∙ onto _ _ _ _ _ (omega arith) (omega arith) (search needs) refl))
     (λ c. rw (c .before .enum-told6 .given .1) (c .plain2 .ensures _))
     (λ c. rw (c .before .enum-told7 .given .1) (c .plain3 .ensures _))
     (λ c. rw (c .before .enum-told8 .given .1) (c .plain4 .ensures _))
     (λ c. rw (c .before .enum-told9 .given .1) (c .plain5 .ensures _))
     (λ c. rw (c .before .enum-told10 .given .1) (c .plain6 .ensures _))
-    (λ c. rw (c .before .before .enum-told11 .given .1) (c .values .ensures ∙ fine _ _ _ _ (omega arith) (cc)))
-    (λ c. rw (c .before .before .before .enum-told12 .given .1) (c .values2 .ensures ∙ fine _ _ _ _ (omega arith) (cc)))
-    (λ c. rw (c .before .before .before .enum-told13 .given .1) (c .values3 .ensures ∙ fine _ _ _ _ (omega arith) (cc)))
-    (λ c. rw (c .before .before .before .before .enum-told14 .given .1) (c .values4 .ensures ∙ fine _ _ _ _ (omega arith) (cc)))
+    (λ c. rw (c .before .before .enum-told11 .given .1) (c .values .ensures ∙ three _ _ _ _ (omega arith) (search needs) refl))
+    (λ c. rw (c .before .before .before .enum-told12 .given .1) (c .values2 .ensures ∙ three _ _ _ _ (omega arith) (search needs) refl))
+    (λ c. rw (c .before .before .before .enum-told13 .given .1) (c .values3 .ensures ∙ three _ _ _ _ (omega arith) (search needs) refl))
+    (λ c. rw (c .before .before .before .before .enum-told14 .given .1) (c .values4 .ensures ∙ three _ _ _ _ (omega arith) (search needs) refl))
     (λ c. rw (c .before .enum-told15 .given .1) (c .from .ensures))
     (λ c. rw (c .before .enum-told16 .given .1) (c .from2 .ensures))
     (λ c. rw (c .before .enum-told17 .given .1) (c .from3 .ensures))

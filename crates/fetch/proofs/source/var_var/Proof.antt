@@ -1,5 +1,5 @@
 -- `var_var`: the source's answer tells whether it is above 63, and the destination's answer is handed on.
-use mathlib.Core.Path.{sym, _∙_}
+use mathlib.Core.Path.{refl, sym, _∙_}
 use native.Mathlib.Omega.{arith}
 use borrow.Author.Needs.{needs}
 use Rattle.numbers.proofs.Places.{named, unnamed}
@@ -20,4 +20,4 @@ var-var-spec =
     (λ c.
     let p = c .before .before in
     let t = named _ _ (sym (p .before .before .before .named .ensures) ∙ p .before .s .given .1) in
-    c .onto .ensures ∙ onto _ _ _ _ _ _ (omega arith) (omega (arith, t)) (cc)))
+    c .onto .ensures ∙ onto _ _ _ _ _ (omega arith) (omega (arith, t)) (rw (← (t .1)) (c .before .value .ensures)) refl))
