@@ -12,7 +12,6 @@ use run::door::pane_fits;
 use run::door::size_fits;
 ghost use mathlib.Core.Path.{_≡_};
 ghost use Prim.Native.Nat.{_≤_};
-ghost use lib.IntN.{pos};
 ghost use Rattle.rules.specs.Environment.{held};
 ghost use Rattle.rules.specs.Door.{Promise};
 ghost use Rattle.rules.specs.Fresh as Fresh;

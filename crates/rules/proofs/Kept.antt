@@ -17,7 +17,7 @@ use Rattle.rules.specs.Types.{BitAddress, Target, At, Refused, Bounds, D
 use Rattle.rules.specs.Table.{formOf}
 use Rattle.rules.specs.Operands.{at, operands, sizeOf, pieces, highest}
 use Rattle.rules.specs.Environment.{Env, goto, moved, turned, pushed, popped, top}
-use Rattle.rules.specs.Opcodes.{Rule, rule, taken, far, absolute, relative, missing, reach, point, shifted}
+use Rattle.rules.specs.Opcodes.{Rule, rule, taken, far, absolute, relative, reach, point, shifted}
 use Rattle.rules.specs.Step.{check, carried, ruled, stepAt, step, afgis}
 use Rattle.rules.specs.Door.{indices, between}
 use Rattle.rules.proofs.Ranges.{both, one, other, neither, Fits}

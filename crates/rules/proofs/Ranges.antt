@@ -1,8 +1,6 @@
 -- The ranges that the door looks at, one by one, with the bounds, which no opcode changes.
-use Prim.Native.Nat.{ℕ}
 use mathlib.Core.Path.{_≡_, refl}
 use mathlib.Core.Bool.{Bool, true, false, _&&_, _||_}
-use mathlib.Core.List.{List}
 use lib.ListN.{length}
 use lib.Dec.{leb}
 use Rattle.numbers.specs.Coordinate.{inWord}

@@ -3,7 +3,6 @@ use Prim.Native.Nat.{ℕ}
 use mathlib.Core.Path.{_≡_, refl, sym, ap}
 use mathlib.Core.List.{List, [], _∷_}
 use borrow.Author.Tests.{ne-eqb}
-use Rattle.rules.specs.declared.opcode.Form.{Form}
 use Rattle.rules.specs.declared.opcode.Form.the-variants.{Unknown}
 use Rattle.rules.specs.Table.{Row, find, table, formOf}
 

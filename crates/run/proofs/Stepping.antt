@@ -1,5 +1,5 @@
 -- What a step may rely on, and what it leaves.
-use Prim.Native.Nat.{ℕ, _<_, _≤_}
+use Prim.Native.Nat.{ℕ, _≤_}
 use mathlib.Core.Path.{_≡_, refl, sym, ap, _∙_, subst}
 use mathlib.Core.Bool.{Bool, true, false, cond}
 use mathlib.Core.List.{List}
@@ -19,7 +19,7 @@ use Rattle.rules.specs.Environment.{Env, view, goto, turned, stateOf, firsts}
 use Rattle.rules.specs.Step.{step, afgis}
 use Rattle.rules.specs.Door.{between, fits}
 use Rattle.rules.proofs.StackLaws.{length-firsts}
-use Rattle.rules.proofs.Ranges.{one, other, Fits, joined, parted}
+use Rattle.rules.proofs.Ranges.{one, Fits, joined, parted}
 use Rattle.rules.proofs.Kept.{step-keeps}
 use Rattle.rules.proofs.DoorLaws.{coord, fitting}
 use Rattle.act.specs.declared.stepped.Stepped.{Stepped}

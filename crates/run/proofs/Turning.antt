@@ -7,12 +7,11 @@ use native.Mathlib.Numerals.{add-one}
 use Rattle.player.specs.declared.Verdict.{Verdict}
 use Rattle.player.specs.declared.State.{State}
 use Rattle.player.specs.declared.State.the-variants.{Running, Ended, Stopped}
-use Rattle.player.specs.Painting.{painted}
 use Rattle.player.specs.Player.{verdict, Outcome, done, refused}
 use Rattle.player.specs.Run.{Answer, answer, by-state, by-opcode, runs}
 use Rattle.rules.specs.Environment.{Env, turned}
 use Rattle.rules.specs.Step.{step, afgis}
-use Rattle.act.specs.Shown.{Shown, went, stayed, shown}
+use Rattle.act.specs.Shown.{went, stayed, shown}
 use Rattle.run.specs.Turns.{numberOf}
 
 one-less : (b k : ℕ) → k < b → b - k ≡ suc (b - (k + 1))

@@ -4,9 +4,8 @@ use mathlib.Core.Bool.{true}
 use native.Mathlib.Omega.{arith}
 use borrow.Author.Needs.{needs}
 use borrow.Author.Tests.{not-true, not-false}
-use Rattle.raster.specs.declared.frame.Bounds.{Bounds}
 use Rattle.raster.specs.Frame.{Sound}
-use Rattle.rules.specs.Door.{sizeFits, paneFits}
+use Rattle.rules.specs.Door.{sizeFits}
 use Rattle.rules.specs.Fresh.{making}
 use Rattle.rules.proofs.DoorLaws.{sound}
 use Rattle.ovenlute.proofs.Making.{bad-size, bad-pane, good}

@@ -1,6 +1,4 @@
 -- `stack_fits`: the stack of the environment is as long as the depth says.
-use mathlib.Core.Path.{sym, ap, _∙_}
-use mathlib.Core.Bool.{Bool, _&&_}
 use borrow.Author.Needs.{needs}
 use borrow.Author.Tests.{le-leb, lt-leb}
 use Rattle.rules.proofs.StackLaws.{length-firsts}

@@ -1,6 +1,6 @@
 -- `window_fits`: each of the four coordinates comes back whole from its test.
 use mathlib.Core.Path.{_∙_, ap₂}
-use mathlib.Core.Bool.{Bool, _&&_}
+use mathlib.Core.Bool.{_&&_}
 use borrow.Author.Needs.{needs}
 use mir.Facts.{toZ-ofZ}
 use Rattle.run.proofs.door.window_fits.Statement.{statement}

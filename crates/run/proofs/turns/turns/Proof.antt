@@ -1,6 +1,6 @@
 -- `turns`: the run from the start is the run from here, with what is left of the budget.
 use Prim.Native.Nat.{ℕ, _-_, _≤_}
-use mathlib.Core.Path.{_≡_, refl, sym, ap, _∙_}
+use mathlib.Core.Path.{_≡_, refl, _∙_}
 use mathlib.Core.List.{List}
 use native.Mathlib.Nat.{sub-zero}
 use native.Mathlib.Omega.{arith}
@@ -11,7 +11,7 @@ use Rattle.player.specs.Run.{runs}
 use Rattle.rules.specs.declared.environment.Registers.{Registers}
 use Rattle.rules.specs.Environment.{view}
 use Rattle.rules.specs.Step.{afgis}
-use Rattle.run.specs.Turns.{Ready, ran}
+use Rattle.run.specs.Turns.{Ready}
 use Rattle.run.proofs.Turning.{rest, go-on, stop, used-up}
 use Rattle.run.proofs.Stepping.{running, not-running, leaves-fits, told, stopped-ran}
 use Rattle.run.proofs.turns.turns.Statement.{statement}
