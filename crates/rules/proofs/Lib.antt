@@ -5,4 +5,5 @@ pub mod Kept
 pub mod Alone
 pub mod DoorLaws
 pub mod Unique
+pub mod Cases
 pub mod Useless

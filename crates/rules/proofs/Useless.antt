@@ -12,7 +12,7 @@ use Rattle.rules.specs.Table.{formOf}
 use Rattle.rules.specs.Environment.{Env}
 use Rattle.rules.specs.Step.{carried, step}
 use Rattle.rules.specs.Door.{door, whole}
-use Rattle.rules.specs.Cases.{e₀, blank, slope, sevenByTwo, starred}
+use Rattle.rules.proofs.Cases.{e₀, blank, slope, sevenByTwo, starred}
 
 -- a box, seen from the host: of a list, a screen, an environment and a budget, an answer
 abbrev pub Box : Type 0

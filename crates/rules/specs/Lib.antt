@@ -8,4 +8,3 @@ pub mod Opcodes
 pub mod Step
 pub mod Door
 pub mod Fresh
-pub mod Cases
