@@ -6,7 +6,7 @@ use mathlib.Core.List.{List, [], _∷_}
 use native.Mathlib.Omega.{arith}
 use lib.ListN.{length}
 use lib.Dec.{ltb, leb}
-use borrow.Author.Tests.{le-leb, lt-leb, lt-ltb, le-ltb, ltb-false}
+use borrow.Author.Tests.{le-leb, lt-leb, ltb-false}
 use Rattle.numbers.specs.declared.place.WordIndex.{WordIndex}
 use Rattle.player.specs.Player.{verdict}
 use Rattle.rules.specs.declared.opcode.Op.{Op}
@@ -17,7 +17,7 @@ use Rattle.rules.specs.declared.opcode.Operands.{Operands}
 use Rattle.rules.specs.Table.{formOf}
 use Rattle.rules.specs.Operands.{Piece, word, long, from, dest, at, pieces, sizeOf, highest, destination, operands}
 use Rattle.fetch.specs.declared.source.Taken.{Taken}
-use Rattle.fetch.specs.declared.source.Taken.the-variants.{NoVariable, Got as Took}
+use Rattle.fetch.specs.declared.source.Taken.the-variants.{Cut, NoVariable, Got as Took}
 use Rattle.fetch.specs.declared.fetch.Fetched.{Fetched}
 use Rattle.fetch.specs.declared.fetch.Fetched.the-variants.{Refused, Got}
 use Rattle.fetch.specs.Stages.{takenOf, early, with-operands, fetchForm, fetchOf}
@@ -33,19 +33,18 @@ module _ (w : List ℕ) (pc : ℕ) (vs : List ℕ) where
     unfolding fetchOf
     is-21 k = rw (lt-leb _ _ h, ← d, k)
 
-    module _ {op : Op} {s : Source} (k : f ≡ Known op s) where
-      pub is-22 : length w < pc + sizeOf s → Refused (verdict 22) ≡ fetchOf w pc vs
+    module _ {op : Op} {s : Source} (k : f ≡ Known op s) {t : Taken} (g : t ≡ takenOf (pieces s) w pc vs) where
+      pub is-22 : t ≡ Cut → Refused (verdict 22) ≡ fetchOf w pc vs
       unfolding fetchOf
-      is-22 l = rw (lt-leb _ _ h, ← d, k, lt-ltb _ _ l)
+      is-22 q = rw (lt-leb _ _ h, ← d, k, ← g, q)
 
-      module _ (l : pc + sizeOf s ≤ length w) {t : Taken} (g : t ≡ takenOf (pieces s) w pc vs) where
-        pub is-23 : t ≡ NoVariable → Refused (verdict 23) ≡ fetchOf w pc vs
-        unfolding fetchOf
-        is-23 q = rw (lt-leb _ _ h, ← d, k, le-ltb _ _ l, ← g, q)
+      pub is-23 : t ≡ NoVariable → Refused (verdict 23) ≡ fetchOf w pc vs
+      unfolding fetchOf
+      is-23 q = rw (lt-leb _ _ h, ← d, k, ← g, q)
 
-        pub is-got : {o : Operands} {next : ℕ} → t ≡ Took o → next ≡ pc + sizeOf s → Got op o (record { 0 = next }) ≡ fetchOf w pc vs
-        unfolding fetchOf
-        is-got q n = rw (lt-leb _ _ h, ← d, k, le-ltb _ _ l, ← g, q, n)
+      pub is-got : {o : Operands} {next : ℕ} → t ≡ Took o → next ≡ pc + sizeOf s → Got op o (record { 0 = next }) ≡ fetchOf w pc vs
+      unfolding fetchOf
+      is-got q n = rw (lt-leb _ _ h, ← d, k, ← g, q, n)
 
 -- ---- the destination is a variable, and the next opcode's index is at most the list's length
 low : (ps : List Piece) (w : List ℕ) (pc k : ℕ) → destination ps w pc k ≤ highest ps w pc k
@@ -64,10 +63,11 @@ module _ (w : List ℕ) (pc : ℕ) (vs : List ℕ) where
   unless n true x h = tt
   unless n false x h = h refl
 
-  given : (op : Op) (next : ℕ) (o : Operands) (b : Bool) → next ≤ length w → (b ≡ false → o .dest .0 < 64)
-      → Sound (with-operands op next (cond b NoVariable (Took o)))
-  given op next o true k h = tt
-  given op next o false k h = (h refl, k)
+  given : (op : Op) (next : ℕ) (o : Operands) (b d : Bool) → (b ≡ false → next ≤ length w) → (d ≡ false → o .dest .0 < 64)
+      → Sound (with-operands op next (cond b Cut (cond d NoVariable (Took o))))
+  given op next o true d k h = tt
+  given op next o false true k h = tt
+  given op next o false false k h = (h refl, k refl)
 
   at-form : (f : Form) → Sound (fetchForm f w pc vs)
   unfolding takenOf
@@ -75,9 +75,8 @@ module _ (w : List ℕ) (pc : ℕ) (vs : List ℕ) where
   at-form (Known op s) =
       let next = pc + sizeOf s in
       let top = highest (pieces s) w pc 1 in
-      unless 22 (ltb (length w) next) (with-operands op next (takenOf (pieces s) w pc vs))
-      (λ p. given op next (operands s w pc vs) (ltb 63 top) (ltb-false (length w) next p)
-      (λ q. omega (arith, ltb-false 63 top q, low (pieces s) w pc 1)))
+      given op next (operands s w pc vs) (ltb (length w) next) (ltb 63 top) (λ p. ltb-false (length w) next p)
+      (λ q. omega (arith, ltb-false 63 top q, low (pieces s) w pc 1))
 
   sound : Sound (fetchOf w pc vs)
   unfolding fetchOf

@@ -17,7 +17,7 @@ use Rattle.rules.specs.Operands.{at, pieces, sizeOf, highest, operands}
 use Rattle.rules.specs.Environment.{Env, goto}
 use Rattle.rules.specs.Opcodes.{rule}
 use Rattle.rules.specs.Step.{check, unknown, cut, misnamed, ruled, carried, step}
-use Rattle.fetch.specs.declared.source.Taken.the-variants.{NoVariable, Got as Took}
+use Rattle.fetch.specs.declared.source.Taken.the-variants.{Cut, NoVariable, Got as Took}
 use Rattle.fetch.specs.declared.fetch.Fetched.{Fetched}
 use Rattle.fetch.specs.declared.fetch.Fetched.the-variants.{Refused, Got}
 use Rattle.fetch.specs.Stages.{takenOf, early, with-operands, fetchForm, fetchOf}
@@ -31,11 +31,13 @@ module _ (w : List ℕ) (e : Env) where
   checked n true x y h = refl
   checked n false x y h = h
 
-  taken : (op : Op) (o : Operands) (next : ℕ) (b : Bool)
-      → check 23 b (carried (rule op o (length w) (goto next e)) e) ≡ resolved (with-operands op next (cond b NoVariable (Took o)))
+  taken : (op : Op) (o : Operands) (next : ℕ) (b d : Bool)
+      → check 22 b (check 23 d (carried (rule op o (length w) (goto next e)) e))
+      ≡ resolved (with-operands op next (cond b Cut (cond d NoVariable (Took o))))
   unfolding carried
-  taken op o next true = refl
-  taken op o next false = refl
+  taken op o next true d = refl
+  taken op o next false true = refl
+  taken op o next false false = refl
 
   at-form : (f : Form)
       → check 21 (unknown f) (check 22 (cut f w (e .counter)) (check 23 (misnamed f w (e .counter)) (carried (ruled f w e) e)))
@@ -44,8 +46,7 @@ module _ (w : List ℕ) (e : Env) where
   at-form Unknown = refl
   at-form (Known op s) =
       let next = e .counter + sizeOf s in
-      checked 22 (ltb (length w) next) _ (with-operands op next (takenOf (pieces s) w (e .counter) (e .variables)))
-      (taken op (operands s w (e .counter) (e .variables)) next (ltb 63 (highest (pieces s) w (e .counter) 1)))
+      taken op (operands s w (e .counter) (e .variables)) next (ltb (length w) next) (ltb 63 (highest (pieces s) w (e .counter) 1))
 
   step-is : step w e ≡ resolved (fetchOf w (e .counter) (e .variables))
   unfolding step fetchOf

@@ -4,15 +4,15 @@ use mathlib.Core.Path.{_≡_, refl, ap, _∙_}
 use mathlib.Core.Bool.{Bool, true, false, cond}
 use mathlib.Core.List.{List, [], _∷_, append-nil}
 use native.Mathlib.Omega.{arith}
-use lib.ListN.{replicate}
+use lib.ListN.{length, replicate}
 use lib.Dec.{ltb}
 use borrow.Author.Tests.{lt-ltb, le-ltb, ltb-true, ltb-false}
-use Rattle.numbers.specs.declared.place.Named.the-variants.{Var, Above}
+use Rattle.numbers.specs.declared.place.VarNo.{VarNo}
 use Rattle.numbers.specs.Number.{signed16, low32}
-use Rattle.numbers.specs.Place.{varOf}
 use Rattle.rules.specs.declared.opcode.Operands.{Operands}
-use Rattle.rules.specs.Operands.{Piece, word, from, at, highest, following, values, destination, gathered}
-use Rattle.fetch.specs.declared.source.Taken.the-variants.{NoVariable, Got}
+use Rattle.rules.specs.Operands.{Piece, word, from, at, widths, highest, following, values, destination, gathered}
+use Rattle.fetch.specs.declared.source.Taken.{Taken}
+use Rattle.fetch.specs.declared.source.Taken.the-variants.{Cut, NoVariable, Got}
 use Rattle.fetch.specs.Stages.{ontoOf, takenOf}
 
 -- ---- n variables from v on, where j are passed already
@@ -48,32 +48,68 @@ module _ (w : List ℕ) (pc : ℕ) where
   no-destination zero j = refl
   no-destination (suc n) j = no-destination n (j + 1)
 
+pub all-words : (n : ℕ) → widths (replicate n word) ≡ n
+all-words zero = refl
+all-words (suc n) = omega (arith, all-words n)
+
+-- ---- a destination d, above 63 or not
+pub above : (a d : ℕ) → 63 < d → NoVariable ≡ ontoOf a d
+unfolding ontoOf
+above a d h = rw (lt-ltb _ _ h)
+
+pub below : (a d : ℕ) (v : VarNo) → v .0 ≡ d → d ≤ 63 → Got (record { a = a; b = 0; c = 0; d = 0; e = 0; dest = v }) ≡ ontoOf a d
+unfolding ontoOf
+below a d v e h = rw (le-ltb _ _ h, ← e)
+
 -- ---- pieces
 module _ (ps : List Piece) (w : List ℕ) (pc : ℕ) (vs : List ℕ) where
-  pub over : 63 < highest ps w pc 1 → NoVariable ≡ takenOf ps w pc vs
+  pub short : length w < pc + (1 + widths ps) → Cut ≡ takenOf ps w pc vs
   unfolding takenOf
-  over h = rw (lt-ltb _ _ h)
+  short l = rw (lt-ltb _ _ l)
 
-  pub fine : {o : Operands} → highest ps w pc 1 ≤ 63 → o ≡ gathered (values ps w pc 1 vs) (destination ps w pc 1) → Got o ≡ takenOf ps w pc vs
+  abbrev Fits : Taken → Type 0
+  Fits Cut = Unit {0}
+  Fits NoVariable = Unit {0}
+  Fits (Got o) = pc + (1 + widths ps) ≤ length w
+
+  fits : Fits (takenOf ps w pc vs)
   unfolding takenOf
-  fine h e = rw (le-ltb _ _ h, e)
-
-  -- at most three values
-  pub three : {a b c : ℕ} → highest ps w pc 1 ≤ 63 → let v = values ps w pc 1 vs in (a ≡ at v 0) × (b ≡ at v 1) × (c ≡ at v 2)
-      → gathered (at v 0 ∷ at v 1 ∷ at v 2 ∷ []) 0 ≡ gathered v (destination ps w pc 1)
-      → Got (record { a = a; b = b; c = c; d = 0; e = 0; dest = record { 0 = 0 } }) ≡ takenOf ps w pc vs
-  three h q r = fine h ((λ i. record { a = q .0 i; b = q .1 i; c = q .2 i; d = 0; e = 0; dest = record { 0 = 0 } }) ∙ r)
-
-  -- at most one value and a destination v, while no other variable is above 63
-  pub onto : {a : ℕ} (v : ℕ) → v ≤ highest ps w pc 1 → highest ps w pc 1 ≤ max v 63 → let x = at (values ps w pc 1 vs) 0 in a ≡ x
-      → gathered (x ∷ []) v ≡ gathered (values ps w pc 1 vs) (destination ps w pc 1) → ontoOf a (varOf v) ≡ takenOf ps w pc vs
-  unfolding varOf
-  onto {a} v low high q r = go (ltb 63 v) refl
+  fits = go _ (ltb (length w) (pc + (1 + widths ps))) (ltb 63 (highest ps w pc 1)) (λ p. ltb-false _ _ p)
     where
-      go : (b : Bool) → ltb 63 v ≡ b → ontoOf a (cond b Above (Var (record { 0 = v }))) ≡ takenOf ps w pc vs
-      go true p = over (omega (arith, ltb-true 63 v p))
-      go false p = fine (omega (arith, ltb-false 63 v p)) (ap (λ (a : ℕ). gathered (a ∷ []) v) q ∙ r)
+      go : (o : Operands) (b d : Bool) → (b ≡ false → pc + (1 + widths ps) ≤ length w) → Fits (cond b Cut (cond d NoVariable (Got o)))
+      go o true d h = tt
+      go o false true h = tt
+      go o false false h = h refl
 
-pub from-variable : (n : ℕ) (w : List ℕ) (pc : ℕ) (vs : List ℕ) (v : ℕ) → v ≡ at w (pc + 1) → v ≤ 63 → v + n ≤ 64
+  -- operands that were taken stand inside the list
+  pub inside : {o : Operands} → takenOf ps w pc vs ≡ Got o → pc + (1 + widths ps) ≤ length w
+  inside h = rw h at fits
+
+  module _ (l : pc + (1 + widths ps) ≤ length w) where
+    pub over : 63 < highest ps w pc 1 → NoVariable ≡ takenOf ps w pc vs
+    unfolding takenOf
+    over h = rw (le-ltb _ _ l, lt-ltb _ _ h)
+
+    pub fine : {o : Operands} → highest ps w pc 1 ≤ 63 → o ≡ gathered (values ps w pc 1 vs) (destination ps w pc 1) → Got o ≡ takenOf ps w pc vs
+    unfolding takenOf
+    fine h e = rw (le-ltb _ _ l, le-ltb _ _ h, e)
+
+    -- at most three values
+    pub three : {a b c : ℕ} → highest ps w pc 1 ≤ 63 → let v = values ps w pc 1 vs in (a ≡ at v 0) × (b ≡ at v 1) × (c ≡ at v 2)
+        → gathered (at v 0 ∷ at v 1 ∷ at v 2 ∷ []) 0 ≡ gathered v (destination ps w pc 1)
+        → Got (record { a = a; b = b; c = c; d = 0; e = 0; dest = record { 0 = 0 } }) ≡ takenOf ps w pc vs
+    three h q r = fine h ((λ i. record { a = q .0 i; b = q .1 i; c = q .2 i; d = 0; e = 0; dest = record { 0 = 0 } }) ∙ r)
+
+    -- at most one value and a destination v, while no other variable is above 63
+    pub onto : {a : ℕ} (v : ℕ) → v ≤ highest ps w pc 1 → highest ps w pc 1 ≤ max v 63 → let x = at (values ps w pc 1 vs) 0 in a ≡ x
+        → gathered (x ∷ []) v ≡ gathered (values ps w pc 1 vs) (destination ps w pc 1) → ontoOf a v ≡ takenOf ps w pc vs
+    unfolding ontoOf
+    onto {a} v low high q r = go (ltb 63 v) refl
+      where
+        go : (b : Bool) → ltb 63 v ≡ b → cond b NoVariable (Got (gathered (a ∷ []) v)) ≡ takenOf ps w pc vs
+        go true p = over (omega (arith, ltb-true 63 v p))
+        go false p = fine (omega (arith, ltb-false 63 v p)) (ap (λ (a : ℕ). gathered (a ∷ []) v) q ∙ r)
+
+pub from-variable : (n : ℕ) (w : List ℕ) (pc : ℕ) (vs : List ℕ) (v : ℕ) → v ≡ at w (pc + 1) → pc + 2 ≤ length w → v ≤ 63 → v + n ≤ 64
     → Got (gathered (following n v 0 vs) 0) ≡ takenOf (from n ∷ []) w pc vs
-from-variable n w pc vs v e h k = fine (from n ∷ []) w pc vs (omega arith) (rw (e, append-nil))
+from-variable n w pc vs v e l h k = fine (from n ∷ []) w pc vs l (omega arith) (rw (e, append-nil))

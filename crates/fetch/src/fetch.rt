@@ -31,15 +31,11 @@ pub fn fetch(words: &[u16], pc: WordIndex, vars: &[u32; 64]) -> Fetched
     match f {
         Form::Unknown => Fetched::Refused(Verdict { number: 21 }),
         Form::Known(op, s) => {
-            let n = size(s);
-            let last = at + (n as usize - 1);
-            if words.len() <= last {
-                return Fetched::Refused(Verdict { number: 22 });
-            }
             let t = take(s, words, pc, vars);
             match t {
+                Taken::Cut => Fetched::Refused(Verdict { number: 22 }),
                 Taken::NoVariable => Fetched::Refused(Verdict { number: 23 }),
-                Taken::Got(o) => Fetched::Got(op, o, WordIndex(pc.0 + n)),
+                Taken::Got(o) => Fetched::Got(op, o, WordIndex(pc.0 + size(s))),
             }
         }
     }

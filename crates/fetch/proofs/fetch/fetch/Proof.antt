@@ -1,6 +1,8 @@
 -- `fetch`: the tests and the arms that lead to each answer say which case of `fetchOf` holds.
+use mathlib.Core.Path.{sym, _∙_}
 use native.Mathlib.Omega.{arith}
 use borrow.Author.Needs.{needs}
+use Rattle.fetch.proofs.Taking.{inside}
 use Rattle.fetch.proofs.Fetching.{is-20, is-21, is-22, is-23, is-got}
 use Rattle.fetch.proofs.fetch.fetch.Statement.{statement}
 use Rattle.fetch.proofs.fetch.fetch.Tie as tie
@@ -20,17 +22,21 @@ fetch-spec =
     (λ c. search needs)
     (λ c. search needs)
     (λ c. search needs)
-    (λ c. let p = c .before .before .before in is-22 _ _ _ (p .before .before .decode .ensures) (omega arith) (p .f .given .1) (omega arith))
     (λ c κs. search needs)
-    (λ c. search needs)
-    (λ c. search needs)
-    (λ c. search needs)
+    (λ c.
+    let q = c .before .before .before in
+    omega (arith, inside _ _ _ _ (sym (q .before .before .take .ensures) ∙ q .t .given .1)))
     (λ c. is-21 _ _ _ (c .before .before .decode .ensures) (omega arith) (c .enum-told .given .1))
     (λ c.
-    let p = c .before .before .before .before .before .before in
-    is-23 _ _ _ (p .before .before .decode .ensures) (omega arith) (p .f .given .1) (omega arith) (c .before .before .take .ensures) (c .enum-told2 .given .1))
+    let q = c .before .before in
+    let p = q .before .before in
+    is-22 _ _ _ (p .before .before .decode .ensures) (omega arith) (p .f .given .1) (q .take .ensures) (c .enum-told2 .given .1))
     (λ c.
     let q = c .before .before in
-    let p = q .before .before .before .before .before .before in
-    let f = p .before .before .decode .ensures in
-    is-got _ _ _ f (omega arith) (p .f .given .1) (omega arith) (q .before .before .take .ensures) (q .t .given .1) (omega arith)))
+    let p = q .before .before in
+    is-23 _ _ _ (p .before .before .decode .ensures) (omega arith) (p .f .given .1) (q .take .ensures) (c .enum-told3 .given .1))
+    (λ c.
+    let t = c .before .before .before in
+    let q = t .before .before in
+    let p = q .before .before in
+    is-got _ _ _ (p .before .before .decode .ensures) (omega arith) (p .f .given .1) (q .take .ensures) (t .t .given .1) (omega arith)))

@@ -1,7 +1,7 @@
 -- `onto`: the arms are those of `ontoOf`.
-use mathlib.Core.Path.{sym, ap, _∙_}
+use native.Mathlib.Omega.{arith}
 use borrow.Author.Needs.{needs}
-use Rattle.fetch.specs.Stages.{ontoOf}
+use Rattle.fetch.proofs.Taking.{above, below}
 use Rattle.fetch.proofs.source.onto.Statement.{statement}
 use Rattle.fetch.proofs.source.onto.Tie as tie
 
@@ -10,7 +10,6 @@ onto-spec =
     tie.close
     (tie.spec
     (λ c κs. search needs)
-    (λ c. search needs)
-    (λ c. search needs)
-    (λ c. ap (ontoOf _) (sym (c .enum-told .given .1) ∙ c .before .before .named .ensures))
-    (λ c. ap (ontoOf _) (sym (c .before .d .given .1) ∙ c .before .before .before .named .ensures)))
+    (λ c. above _ _ (omega arith))
+    (λ c κs. search needs)
+    (λ c. below _ _ _ (omega arith) (omega arith)))

@@ -1,7 +1,7 @@
 -- `plain`: each value is the one of its place, and words name no variable.
 use native.Mathlib.Omega.{arith}
 use borrow.Author.Needs.{needs}
-use Rattle.fetch.proofs.Taking.{no-variable, no-destination, fine}
+use Rattle.fetch.proofs.Taking.{all-words, no-variable, no-destination, short, fine}
 use Rattle.fetch.proofs.source.plain.Statement.{statement}
 use Rattle.fetch.proofs.source.plain.Tie as tie
 
@@ -10,13 +10,15 @@ plain-spec =
     tie.close
     (tie.spec
     (λ c κs. search needs)
+    (λ c vs. short _ _ _ vs (rw all-words (omega arith)))
+    (λ c κs. search needs)
     (λ c κs. search needs)
     (λ c κs. search needs)
     (λ c κs. search needs)
     (λ c κs. search needs)
     (λ c vs.
     let p = c .before .before in
-    fine _ _ _ _ (rw no-variable (omega arith))
+    fine _ _ _ _ (rw all-words (omega arith)) (rw no-variable (omega arith))
     (rw (
       no-destination,
       ← (p .before .before .operand .ensures vs),
