@@ -1,0 +1,76 @@
+// Runs the lists of a page in turn, a slice of its budget each.
+use crate::page::PLACES;
+use crate::page::Page;
+use crate::page::Playing;
+use crate::text::Span;
+ghost use Prim.Native.Nat.{_≤_};
+
+// Opcodes in a slice, and slices in the largest budget.
+const SLICE: u32 = 1_000;
+
+const SLICES: u32 = 1_000;
+
+// Each list to its end, to a stop, or to the end of its budget.
+pub fn turns(words: &[u16], screen: &mut [u8], page: Page) -> Page {
+    let mut p = page;
+    let mut n = 0;
+    while n < SLICES {
+        p = round(words, screen, p);
+        n += 1;
+    }
+    p
+}
+
+// One slice of each list. A list that has ended or stopped answers its number again.
+fn round(words: &[u16], screen: &mut [u8], page: Page) -> Page {
+    let mut p = page;
+    let mut k = 0;
+    while k < PLACES {
+        if p.count <= k {
+            return p;
+        }
+        let playing = p.lists[k];
+        p.lists[k] = slice(words, screen, playing);
+        k += 1;
+    }
+    p
+}
+
+fn slice(words: &[u16], screen: &mut [u8], playing: Playing) -> Playing {
+    let left = playing.left;
+    if left < SLICE {
+        return ran(words, screen, playing, left);
+    }
+    ran(words, screen, playing, SLICE)
+}
+
+// The list after `budget` of what is left of its budget.
+fn ran(words: &[u16], screen: &mut [u8], playing: Playing, budget: u32) -> Playing
+    requires { ⌜ budget ≤ playing .left ⌝ }
+{
+    let name = playing.name;
+    let span = playing.words;
+    let answer = ovenlute::run_through(words_of(words, span), screen, playing.env, budget);
+    let env = answer.env;
+    Playing {
+        env,
+        name,
+        words: span,
+        left: playing.left - budget,
+        steps: std::num::wrapping_add_u32(playing.steps, answer.steps),
+        number: answer.number,
+    }
+}
+
+// The words of a span; none where it is not within the room.
+fn words_of(words: &[u16], span: Span) -> &[u16] {
+    let from = span.from;
+    let to = span.to;
+    if words.len() < to {
+        return &words[..0];
+    }
+    if to < from {
+        return &words[..0];
+    }
+    &words[from..to]
+}
