@@ -11,6 +11,7 @@ void *memmove(void *to, const void *from, size_t bytes);
 void *memset(void *to, int byte, size_t bytes);
 char *strchr(const char *text, int letter);
 size_t strlen(const char *text);
+long read(int file, void *to, size_t bytes);
 unsigned long long strtoull(const char *text, char **end, int base);
 
 /* ---- Linux on x86-64 ---- */

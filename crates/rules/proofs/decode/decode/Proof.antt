@@ -1,5 +1,4 @@
 -- `rules::decode::decode` meets its contract: each arm has its number's row of the table, and the last arm's word is none of the numbers.
---
 use mathlib.Core.Path.{sym}
 use Rattle.rules.specs.Table.{formOf}
 use Rattle.rules.proofs.TableLaws.{at, unknown}

@@ -1,0 +1,96 @@
+// Prints what a run answers, but for the screen.
+use crate::print::count;
+use crate::print::end_line;
+use crate::print::signed;
+use crate::print::text;
+use crate::print::unsigned;
+use numbers::value::of_signed;
+use raster::dots::Dot;
+use raster::frame::Bounds;
+use raster::frame::Window;
+use rules::answer::Answer;
+use rules::environment::Registers;
+
+pub fn print_answer(answer: Answer) {
+    count(b"answer ", answer.number as usize);
+    unsigned(b" steps ", answer.steps);
+    end_line();
+    let env = answer.env;
+    let registers = env.registers;
+    let stack = env.stack;
+    let variables = env.variables;
+    print_bounds(env.bounds);
+    print_registers(registers);
+    print_returns(&stack, registers.depth as usize);
+    print_variables(&variables);
+}
+
+fn print_bounds(bounds: Bounds) {
+    let pane = bounds.pane;
+    unsigned(b"size ", bounds.width);
+    unsigned(b" ", bounds.height);
+    unsigned(b" pane ", pane.left);
+    unsigned(b" ", pane.top);
+    unsigned(b" ", pane.right);
+    unsigned(b" ", pane.bottom);
+    end_line();
+}
+
+fn print_registers(registers: Registers) {
+    print_position(registers.position);
+    count(b" colour ", registers.colour as usize);
+    unsigned(b" mode ", registers.mode);
+    print_window(registers.window);
+    signed(b"compared ", registers.first);
+    signed(b" ", registers.second);
+    end_line();
+    count(b"state ", registers.state as usize);
+    let counter = registers.counter;
+    unsigned(b" counter ", counter.0);
+    unsigned(b" depth ", registers.depth);
+}
+
+fn print_position(position: Dot) {
+    signed(b"position ", of_signed(position.x));
+    signed(b" ", of_signed(position.y));
+}
+
+fn print_window(window: Window) {
+    signed(b" window ", of_signed(window.x0));
+    signed(b" ", of_signed(window.y0));
+    signed(b" ", of_signed(window.x1));
+    signed(b" ", of_signed(window.y1));
+    end_line();
+}
+
+// The first `depth` returns, the first one stacked first.
+fn print_returns(stack: &[u32; 16], depth: usize) {
+    text(b" returns");
+    let mut i = 0;
+    while i < stack.len() {
+        if depth <= i {
+            break;
+        }
+        unsigned(b" ", stack[i]);
+        i += 1;
+    }
+    end_line();
+}
+
+// The variables that are not 0.
+fn print_variables(variables: &[u32; 64]) {
+    let mut i = 0;
+    while i < variables.len() {
+        print_variable(i, variables[i]);
+        i += 1;
+    }
+}
+
+fn print_variable(i: usize, value: u32) {
+    if value == 0 {
+        return;
+    }
+    count(b"V", i);
+    signed(b" ", value);
+    end_line();
+}

@@ -1,0 +1,37 @@
+// What can be wrong with a line, and the message that says so.
+use crate::print::count;
+use crate::print::line;
+
+pub enum Fault {
+    Unknown,
+    Missing,
+    Extra,
+    NoNumber,
+    Range,
+    NoField,
+    NoWord,
+    TooMany,
+    TooLong,
+    Unended,
+}
+
+pub enum Outcome {
+    Fine,
+    Wrong(Fault),
+}
+
+pub fn complain(number: usize, fault: Fault) {
+    count(b"line ", number);
+    match fault {
+        Fault::Unknown => line(b": unknown command"),
+        Fault::Missing => line(b": a word is missing"),
+        Fault::Extra => line(b": a word too many"),
+        Fault::NoNumber => line(b": not a decimal number"),
+        Fault::Range => line(b": a number out of its range"),
+        Fault::NoField => line(b": no field of that name"),
+        Fault::NoWord => line(b": not a word of four hexadecimal digits"),
+        Fault::TooMany => line(b": a list of more than 65537 words"),
+        Fault::TooLong => line(b": a line of more than 4096 bytes"),
+        Fault::Unended => line(b": no line feed at the end"),
+    }
+}

@@ -1,0 +1,33 @@
+// Runs the list and prints the answer.
+use crate::answer::print_answer;
+use crate::desk::Desk;
+use crate::desk::Turn;
+use crate::desk::fine;
+use crate::desk::with_env;
+use crate::screen::print_screen;
+use rules::answer::Answer;
+use rules::environment::Env;
+ghost use Prim.Native.Nat.{_≤_};
+ghost use lib.ListN.{length};
+ghost use Rattle.cases.specs.Rooms.{Held};
+
+pub fn run(desk: Desk, words: &[u16], screen: &mut [u8]) -> Turn
+    requires { ⌜ Held desk ⌝ }
+    requires { ⌜ (desk .words ≤ length (now words)) × (desk .bytes ≤ length (now screen)) ⌝ }
+    ensures { λ r. ⌜ Held (r .desk) ⌝ }
+{
+    let count = desk.words;
+    let bytes = desk.bytes;
+    let env = desk.env;
+    let lent = &mut screen[..bytes];
+    let answer = answered(&words[..count], lent, env, desk.budget);
+    print_answer(answer);
+    let after = answer.env;
+    print_screen(lent, after.bounds.width as usize);
+    fine(with_env(desk, after))
+}
+
+// The box's answer, with none of its promises: no proof here leans on them.
+fn answered(list: &[u16], screen: &mut [u8], env: Env, budget: u32) -> Answer {
+    ovenlute::run_through(list, screen, env, budget)
+}
