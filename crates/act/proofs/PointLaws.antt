@@ -2,7 +2,6 @@
 use Prim.Native.Nat.{_^_, _<_}
 use mathlib.Core.Path.{_≡_, refl, sym, _∙_}
 use mathlib.Core.Bool.{Bool, true, false, cond, not, _&&_}
-use native.Mathlib.Omega.{arith}
 use borrow.Author.Tests.{not-false}
 use lib.IntN.{ℤ, _+ℤ_}
 use lib.Signed.{mag}
@@ -12,11 +11,10 @@ use mir.Facts.{toZ-ofZ}
 use Rattle.numbers.specs.Coordinate.{inWord, coordinate}
 use Rattle.numbers.specs.declared.coordinate.Coordinate.the-variants.{Within, Outside}
 use Rattle.numbers.proofs.Answers.{told-first, told-second, clash}
-use Rattle.numbers.proofs.Coordinates.{within-mag}
 use Rattle.raster.specs.declared.dots.Dot.{Dot}
-use Rattle.raster.specs.Frame.{Coord}
 use Rattle.rules.specs.Opcodes.{far, shifted}
 use Rattle.rules.proofs.Ranges.{one, other}
+use Rattle.rules.proofs.DoorLaws.{coord}
 use Rattle.act.specs.declared.point.Point.{Point}
 use Rattle.act.specs.declared.point.Point.the-variants as Points
 use Rattle.act.specs.Contracts.{Near}
@@ -49,10 +47,7 @@ sum-judged p d q is px py qx qy = rw (same (p .x) px, same (p .y) py, same (q .x
     same : (z : ℤ) → mag z < 2 ^ 31 → held z ≡ z
     same z h = toZ-ofZ {w = w32} (record { sfits = h })
 
--- ---- what raster draws: a signed word is a coordinate, and a point that is not far has two
-pub coord : (z : ℤ) → inWord z ≡ true → Coord z
-coord z e = record { small = omega (arith, within-mag z e) }
-
+-- ---- what raster draws: a point that is not far has two coordinates
 pub near : (p : Dot) → far p ≡ false → Near p
 near p e = let t = not-false (inWord (p .x) && inWord (p .y)) e in (coord (p .x) (one _ _ t), coord (p .y) (other (inWord (p .x)) _ t))
 

@@ -46,7 +46,7 @@ module _ (w : List ℕ) (pc : ℕ) (vs : List ℕ) where
       unfolding fetchOf
       is-got q n = rw (lt-leb _ _ h, ← d, k, ← g, q, n)
 
--- ---- the destination is a variable, and the next opcode's index is at most the list's length
+-- ---- the destination is a variable
 low : (ps : List Piece) (w : List ℕ) (pc k : ℕ) → destination ps w pc k ≤ highest ps w pc k
 low [] w pc k = omega arith
 low (word ∷ ps) w pc k = omega (arith, low ps w pc (k + 1))
@@ -57,17 +57,16 @@ low (dest ∷ ps) w pc k = omega arith
 module _ (w : List ℕ) (pc : ℕ) (vs : List ℕ) where
   abbrev Sound : Fetched → Type 0
   Sound (Refused v) = Unit {0}
-  Sound (Got op o next) = (o .dest .0 < 64) × (next .0 ≤ length w)
+  Sound (Got op o next) = o .dest .0 < 64
 
   unless : (n : ℕ) (b : Bool) (x : Fetched) → (b ≡ false → Sound x) → Sound (early n b x)
   unless n true x h = tt
   unless n false x h = h refl
 
-  given : (op : Op) (next : ℕ) (o : Operands) (b d : Bool) → (b ≡ false → next ≤ length w) → (d ≡ false → o .dest .0 < 64)
-      → Sound (with-operands op next (cond b Cut (cond d NoVariable (Took o))))
-  given op next o true d k h = tt
-  given op next o false true k h = tt
-  given op next o false false k h = (h refl, k refl)
+  given : (op : Op) (next : ℕ) (o : Operands) (b d : Bool) → (d ≡ false → o .dest .0 < 64) → Sound (with-operands op next (cond b Cut (cond d NoVariable (Took o))))
+  given op next o true d h = tt
+  given op next o false true h = tt
+  given op next o false false h = h refl
 
   at-form : (f : Form) → Sound (fetchForm f w pc vs)
   unfolding takenOf
@@ -75,8 +74,7 @@ module _ (w : List ℕ) (pc : ℕ) (vs : List ℕ) where
   at-form (Known op s) =
       let next = pc + sizeOf s in
       let top = highest (pieces s) w pc 1 in
-      given op next (operands s w pc vs) (ltb (length w) next) (ltb 63 top) (λ p. ltb-false (length w) next p)
-      (λ q. omega (arith, ltb-false 63 top q, low (pieces s) w pc 1))
+      given op next (operands s w pc vs) (ltb (length w) next) (ltb 63 top) (λ q. omega (arith, ltb-false 63 top q, low (pieces s) w pc 1))
 
   sound : Sound (fetchOf w pc vs)
   unfolding fetchOf
@@ -84,7 +82,4 @@ module _ (w : List ℕ) (pc : ℕ) (vs : List ℕ) where
 
   module _ {op : Op} {o : Operands} {next : WordIndex} (h : fetchOf w pc vs ≡ Got op o next) where
     pub got-dest : o .dest .0 < 64
-    got-dest = (rw h at sound) .0
-
-    pub got-next : next .0 ≤ length w
-    got-next = (rw h at sound) .1
+    got-dest = rw h at sound

@@ -1,4 +1,4 @@
--- Operands by the pieces that they come from: refused where a variable named or implied is above 63, else read.
+-- Operands by the pieces that they come from: refused where the list ends inside them or a variable named or implied is above 63, else read.
 use Prim.Native.Nat.{ℕ, zero, suc, _+_, _<_, _≤_, max}
 use mathlib.Core.Path.{_≡_, refl, ap, _∙_}
 use mathlib.Core.Bool.{Bool, true, false, cond}

@@ -1,9 +1,9 @@
 -- Coordinates: what lies within a signed word, and what an answer tells.
-use Prim.Native.Nat.{ℕ, _^_, _<_, _≤_}
+use Prim.Native.Nat.{ℕ, _^_, _<_}
 use mathlib.Core.Path.{_≡_, refl, sym, _∙_}
 use mathlib.Core.Bool.{true, false, and-true}
 use native.Mathlib.Omega.{arith}
-use borrow.Author.Tests.{lt-ltb, le-leb, ltb-true, ltb-false}
+use borrow.Author.Tests.{lt-ltb, le-leb, ltb-true}
 use lib.Dec.{ltb, leb, leb·suc-suc}
 use lib.IntN.{ℤ, pos, negsuc}
 use lib.Signed.{mag, leZ}
@@ -26,9 +26,6 @@ in-word (negsuc n) = and-true (leb n 32767) ∙ sym (leb·suc-suc n 32767)
 module _ (z : ℤ) where
   pub within-mag : inWord z ≡ true → mag z < 2 ^ 15
   within-mag e = ltb-true (mag z) (2 ^ 15) (sym (in-word z) ∙ e)
-
-  pub outside-mag : inWord z ≡ false → 2 ^ 15 ≤ mag z
-  outside-mag e = ltb-false (mag z) (2 ^ 15) (sym (in-word z) ∙ e)
 
   pub mag-within : mag z < 2 ^ 15 → inWord z ≡ true
   mag-within h = in-word z ∙ lt-ltb (mag z) (2 ^ 15) h
