@@ -1,6 +1,7 @@
 -- Values and bits: a value goes by its sign, and sums, differences and products may be taken of the bits.
 use Prim.Native.Nat.{ℕ, zero, suc, _+_, _-_, _*_, _%_, _^_, _<_, _≤_}
 use mathlib.Core.Path.{_≡_, refl, sym, ap, _∙_}
+use mathlib.Core.Bool.{Bool, true, false}
 use native.Mathlib.Nat.{mul-comm}
 use native.Mathlib.Omega.{arith}
 use borrow.Author.Tests.{lt-ltb, le-ltb, ltb-true, ltb-false}
@@ -115,11 +116,10 @@ module _ (a b : ℕ) (ha : a < 2 ^ 32) (hb : b < 2 ^ 32) where
   unfolding product32
   product-bits = low-mul (signed32 a) (signed32 b) ∙ rw (low-signed a ha, low-signed b hb)
 
-module _ (n : ℕ) where
-  pub extend-pos : n < 2 ^ 15 → low32 (signed16 n) ≡ n
-  unfolding low32
-  extend-pos h = rw (word-pos n h) (omega arith)
-
-  pub extend-neg : 2 ^ 15 ≤ n → n < 2 ^ 16 → low32 (signed16 n) ≡ n + 0xffff_0000
-  unfolding low32
-  extend-neg h k = rw (word-neg n h k) (omega arith)
+pub extended : (n : ℕ) → n < 2 ^ 16 → low32 (signed16 n) ≡ ((n + 0x8000) % 0x1_0000 + 0xffff_8000) % 0x1_0000_0000
+unfolding low32
+extended n k = go (ltb n (2 ^ 15)) refl
+  where
+    go : (t : Bool) → ltb n (2 ^ 15) ≡ t → low32 (signed16 n) ≡ ((n + 0x8000) % 0x1_0000 + 0xffff_8000) % 0x1_0000_0000
+    go true e = let h = ltb-true n (2 ^ 15) e in rw (word-pos n h) (omega (arith, h))
+    go false e = let h = ltb-false n (2 ^ 15) e in rw (word-neg n h k) (omega (arith, h))

@@ -22,11 +22,12 @@ pub fn of_signed(value: i32) -> u32
     }
 }
 
+// Raised by 2^15 and lowered again, both modulo a power of 2: one instruction of the machine.
 pub fn extend(word: u16) -> u32
     ensures { λ r. ⌜ r ≡ low32 (signed16 word) ⌝ }
 {
-    let n = word as u32;
-    if n < 0x8000 { n } else { n + 0xffff_0000 }
+    let raised = ((word as u64) + 0x8000) % 0x1_0000;
+    ((raised + 0xffff_8000) % 0x1_0000_0000) as u32
 }
 
 pub fn long(low: u16, high: u16) -> u32
