@@ -7,10 +7,11 @@ use mathlib.Core.Option.{Option, none, some}
 use Rattle.raster.specs.Paint.{paint}
 use Rattle.raster.proofs.Paintings.{nothing}
 use Rattle.player.specs.Player.{verdict, Outcome, done, refused}
-use Rattle.rules.specs.Environment.{Env, frame}
-use Rattle.rules.specs.Opcodes.{Rule}
+use Rattle.numbers.specs.declared.place.WordIndex.{WordIndex}
+use Rattle.rules.specs.Environment.{Env, goto, frame}
+use Rattle.rules.specs.Opcodes.{Rule, paints}
 use Rattle.rules.specs.Step.{check, carried}
-use Rattle.act.specs.Shown.{Shown, went, stayed, shown}
+use Rattle.act.specs.Shown.{Shown, went, stayed, seen, does}
 
 -- the lowest that a rule breaks
 abbrev pub lowest : Rule → Option ℕ
@@ -39,15 +40,32 @@ carried-is r e =
     go n true m p = refl
     go n false m p = p
 
-module _ (r : Rule) (e : Env) (s : List ℕ) where
+-- ---- a rule, the next opcode at an index, from the environment e with the screen s
+module _ (rule : Env → Rule) (next : WordIndex) (e : Env) (s : List ℕ) where
+  abbrev r : Rule
+  r = rule (goto (next .0) e)
+
   -- a rule that breaks n, and none below it, is refused with n, and all stays
-  pub stays : {n : ℕ} {X : Shown} → lowest r ≡ some n → X ≡ stayed (verdict n) e s → X ≡ shown (carried r e) e s
+  pub stays : {n : ℕ} {X : Shown} → lowest r ≡ some n → X ≡ stayed (verdict n) e s → X ≡ does rule next e s
+  unfolding does
   stays p x = rw (carried-is r e, p) x
 
   -- one that breaks none is carried out, and its shape painted
-  pub goes : {X : Shown} → lowest r ≡ none → X ≡ went (r .env) (paint (frame e) (r .shape) (r .colour) s) → X ≡ shown (carried r e) e s
+  goes : {X : Shown} → lowest r ≡ none → X ≡ went (r .env) (paint (frame e) (r .shape) (r .colour) s) → X ≡ does rule next e s
+  unfolding does
   goes p x = rw (carried-is r e, p) x
 
+  -- and does what another rule does that says the same and checks nothing
+  pub past : (f : Env → Rule) {X : Shown} → lowest r ≡ none → f (goto (next .0) e) ≡ paints (r .shape) (r .colour) (r .env) → X ≡ does f next e s
+      → X ≡ does rule next e s
+  unfolding does carried
+  past f p same x = goes p (rw same at x)
+
+  -- 0 came back, with the environment and the screen that it says
+  pub drawn : {q : ℕ} {e' : Env} {s' : List ℕ} → lowest r ≡ none → q ≡ 0 → e' ≡ r .env → s' ≡ paint (frame e) (r .shape) (r .colour) s
+      → seen q e' s' ≡ does rule next e s
+  drawn p z env screen = goes p (rw (z, env, screen))
+
   -- where that is empty, the screen stays
-  pub turns : {X : Shown} → lowest r ≡ none → r .shape ≡ (λ x y. false) → X ≡ went (r .env) s → X ≡ shown (carried r e) e s
+  pub turns : {X : Shown} → lowest r ≡ none → r .shape ≡ (λ x y. false) → X ≡ went (r .env) s → X ≡ does rule next e s
   turns p empty x = goes p (rw (empty, nothing (frame e) (r .colour) s) x)

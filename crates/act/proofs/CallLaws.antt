@@ -1,55 +1,80 @@
 -- What a target and the depth tell of the rules of a call and a return.
 use Prim.Native.Nat.{ℕ, suc, _+_, _-_, _<_, _≤_}
-use mathlib.Core.Path.{_≡_, refl}
+use mathlib.Core.Path.{_≡_, refl, ap, _∙_}
 use mathlib.Core.List.{List}
 use native.Mathlib.Omega.{arith}
 use native.Mathlib.Numerals.{add-one}
 use borrow.Author.Tests.{le-leb, lt-leb, eq-eqb, ne-eqb}
-use lib.ListN.{length, set, getD}
+use lib.ListN.{set, getD, length-set}
+use lib.IntN.{ℤ}
 use Rattle.numbers.specs.declared.place.WordIndex.{WordIndex}
 use Rattle.numbers.specs.declared.place.Target.{Target}
-use Rattle.numbers.specs.declared.place.Target.the-variants.{At, Refused as Missing}
-use Rattle.player.specs.Player.{verdict}
+use Rattle.numbers.specs.declared.place.Target.the-variants.{At, Refused}
 use Rattle.raster.specs.declared.frame.Bounds.{Bounds}
-use Rattle.rules.specs.declared.environment.Registers.{Registers}
 use Rattle.rules.specs.declared.opcode.Op.the-variants.{Return}
 use Rattle.rules.specs.declared.opcode.Operands.{Operands}
-use Rattle.rules.specs.Environment.{firsts, view, goto, stacked}
+use Rattle.rules.specs.Environment.{Env, firsts, goto, stacked}
+use Rattle.rules.specs.Operands.{at}
 use Rattle.rules.specs.Opcodes.{calls, rule}
 use Rattle.rules.proofs.StackLaws.{length-firsts, push, pop, each}
-use Rattle.act.specs.declared.stepped.Stepped.{Stepped}
-use Rattle.act.specs.declared.stepped.Stepped.the-variants.{Refused}
-use Rattle.rules.specs.Step.{carried}
-use Rattle.act.specs.Shown.{Shown, went, shown}
-use Rattle.act.specs.Contracts.{Stacks}
+use Rattle.act.specs.Held.{look, Cells, Recelled}
+use Rattle.act.specs.Shown.{does}
+use Rattle.act.specs.Contracts.{Stacks, Stacked}
 use Rattle.act.proofs.Acting.{stays, turns}
+use Rattle.act.proofs.Handing.{settled}
 
-module _ {t : Target} (r : Registers) (st : List ℕ) where
-  pub call-27 : {q : Stepped} → t ≡ Missing → q ≡ Refused (verdict 27) → Stacks q (calls t) r st st
-  call-27 m q b vs s = stays _ _ s {n = 27} (rw m) (rw q)
+-- the depth was set to n
+abbrev Deepened : ℕ → List ℕ → List ℕ → Type 0
+Deepened n cs cs' = Cells cs' × ((b : Bounds) (ps : List ℤ) (vs st : List ℕ) → look b cs' ps vs st ≡ stacked (firsts n st) (look b cs ps vs st))
 
-  module _ {i : WordIndex} (m : t ≡ At i) where
-    pub call-28 : {q : Stepped} → 16 ≤ r .depth → q ≡ Refused (verdict 28) → Stacks q (calls t) r st st
-    call-28 h q b vs s = stays _ _ s {n = 28} (rw (m, length-firsts (r .depth) st, le-leb 16 _ h)) (rw q)
+-- and the counter to i
+then-to : (n : ℕ) {i : ℕ} (cs : List ℕ) {cs' cs'' : List ℕ} → Deepened n cs cs' → Recelled (goto i) cs' cs'' → (b : Bounds) (ps : List ℤ) (vs st : List ℕ)
+    → look b cs'' ps vs st ≡ goto i (stacked (firsts n st) (look b cs ps vs st))
+then-to n {i} cs p g b ps vs st = g .shows b ps vs st ∙ ap (goto i) (p .1 b ps vs st)
+
+-- ---- a call, and a return; d is the depth
+module _ (t : Target) (next : WordIndex) {cs st : List ℕ} (pre : Stacked cs st) where
+  pub call-27 : t ≡ Refused → Stacks 27 (does (calls t) next) cs cs st st
+  call-27 m = record { cells = pre .cells; deep = pre .full; tells = λ b ps vs s. stays _ _ _ s (rw m) refl }
+
+  module _ {i : WordIndex} (m : t ≡ At i) {d : ℕ} (is : d ≡ at cs 3) where
+    pub call-28 : 16 ≤ d → Stacks 28 (does (calls t) next) cs cs st st
+    call-28 h =
+        record { cells = pre .cells; deep = pre .full; tells = λ b ps vs s. stays _ _ _ s (rw (m, ← is, length-firsts d st, le-leb 16 d h)) refl }
 
     -- the next opcode's index is stored at the depth
-    pub call-at : r .depth < 16 → length st ≡ 16 → (b : Bounds) (vs s : List ℕ) {X : Shown}
-        → X ≡ went (goto (i .0) (stacked (firsts (r .depth + 1) (set st (r .depth) (r .counter .0))) (view b r vs st))) s
-        → X ≡ shown (carried (calls t (view b r vs st)) (view b r vs st)) (view b r vs st) s
-    call-at h l b vs s x =
-        turns _ _ s (rw (m, length-firsts (r .depth) st, lt-leb 16 _ h)) refl
-        (rw (m, ← push (r .depth) (r .counter .0) st (omega arith), ← add-one (r .depth)) x)
+    pub call-at : d < 16 → {q : ℕ} {cs' cs'' : List ℕ} → Deepened (d + 1) cs cs' → (q ≡ 0) × Recelled (goto (i .0)) cs' cs''
+        → Stacks q (does (calls t) next) cs cs'' st (set st d (next .0))
+    call-at h p g = record {
+      cells = g .1 .full;
+      deep = simp length-set (pre .full);
+      tells = λ b ps vs s.
+          turns _ _ _ s (rw (m, ← is, length-firsts d st, lt-leb 16 d h)) refl
+          (rw (m, ← is, ← push d (next .0) st (omega (arith, h, pre .full)), ← add-one d)
+          (settled (g .0) (then-to (d + 1) cs p (g .1) b ps vs (set st d (next .0)))));
+    }
 
-module _ (o : Operands) (n : ℕ) (r : Registers) (st : List ℕ) where
-  pub back-29 : {q : Stepped} → r .depth ≡ 0 → q ≡ Refused (verdict 29) → Stacks q (rule Return o n) r st st
-  back-29 h q b vs s = stays _ _ s {n = 29} (rw (length-firsts (r .depth) st, eq-eqb _ 0 h)) (rw q)
+-- the target t is what T makes of the environment at the next opcode
+pub call-aimed : {t : Target} (next : WordIndex) (T : Env → Target) → ((e : Env) → t ≡ T (goto (next .0) e)) → {q : ℕ} {cs cs' st st' : List ℕ}
+    → Stacks q (does (calls t) next) cs cs' st st' → Stacks q (does (λ e. calls (T e) e) next) cs cs' st st'
+unfolding does
+call-aimed next T is p = record { cells = p .cells; deep = p .deep; tells = λ b ps vs s. rw (← is _) (p .tells b ps vs s) }
+
+module _ (o : Operands) (n : ℕ) (next : WordIndex) {cs st : List ℕ} (pre : Stacked cs st) {d : ℕ} (is : d ≡ at cs 3) where
+  pub back-29 : d ≡ 0 → Stacks 29 (does (rule Return o n) next) cs cs st st
+  back-29 z =
+      record { cells = pre .cells; deep = pre .full; tells = λ b ps vs s. stays _ _ _ s (rw (← is, length-firsts d st, eq-eqb d 0 z)) refl }
 
   -- the last return stacked stands below the depth
-  pub back-at : 0 < r .depth → (b : Bounds) (vs s : List ℕ) {X : Shown}
-      → X ≡ went (goto (getD st (r .depth - 1) 0) (stacked (firsts (r .depth - 1) st) (view b r vs st))) s
-      → X ≡ shown (carried (rule Return o n (view b r vs st)) (view b r vs st)) (view b r vs st) s
-  back-at h b vs s x =
-      let d = r .depth in
-      let above : suc (d - 1) ≡ d = omega arith in
-      turns _ _ s (rw (length-firsts d st, ne-eqb d 0 (omega arith))) refl
-      (rw (length-firsts d st, each d (d - 1) st (omega arith), rw above at (pop (d - 1) st)) x)
+  pub back-at : (d ≡ 0 → ⊥) → {q : ℕ} {cs' cs'' : List ℕ} → Deepened (d - 1) cs cs' → (q ≡ 0) × Recelled (goto (getD st (d - 1) 0)) cs' cs''
+      → Stacks q (does (rule Return o n) next) cs cs'' st st
+  back-at h p g =
+      let above : suc (d - 1) ≡ d = omega (arith, h) in
+      record {
+        cells = g .1 .full;
+        deep = pre .full;
+        tells = λ b ps vs s.
+            turns _ _ _ s (rw (← is, length-firsts d st, ne-eqb d 0 h)) refl
+            (rw (← is, length-firsts d st, each d (d - 1) st (omega (arith, h)), rw above at (pop (d - 1) st))
+            (settled (g .0) (then-to (d - 1) cs p (g .1) b ps vs st)));
+      }

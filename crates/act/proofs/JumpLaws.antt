@@ -5,50 +5,60 @@ use mathlib.Core.Bool.{Bool, true, false, cond}
 use mathlib.Core.List.{List}
 use Rattle.numbers.specs.declared.place.WordIndex.{WordIndex}
 use Rattle.numbers.specs.declared.place.Target.{Target}
-use Rattle.numbers.specs.declared.place.Target.the-variants.{At, Refused as Missing}
+use Rattle.numbers.specs.declared.place.Target.the-variants.{At, Refused}
 use Rattle.numbers.specs.Number.{signed32}
-use Rattle.player.specs.Player.{verdict}
-use Rattle.raster.specs.declared.frame.Bounds.{Bounds}
-use Rattle.rules.specs.declared.environment.Registers.{Registers}
 use Rattle.rules.specs.Conditions.{allowed, holds}
-use Rattle.rules.specs.Environment.{view, goto}
+use Rattle.rules.specs.Environment.{Env, goto}
+use Rattle.rules.specs.Operands.{at}
 use Rattle.rules.specs.Opcodes.{jumps}
-use Rattle.act.specs.declared.stepped.Stepped.{Stepped}
-use Rattle.act.specs.declared.stepped.Stepped.the-variants.{Refused, Done}
 use Rattle.act.specs.declared.flow.Condition.{Condition}
 use Rattle.act.specs.declared.flow.Condition.the-variants.{NotAllowed, Holds, Fails}
-use Rattle.rules.specs.Step.{carried}
-use Rattle.act.specs.Shown.{Shown, went, shown}
+use Rattle.act.specs.Held.{Cells, Recelled}
+use Rattle.act.specs.Shown.{does}
 use Rattle.act.specs.Conditions.{told, conditionOf}
 use Rattle.act.specs.Contracts.{Turns}
 use Rattle.act.proofs.Acting.{stays, turns}
+use Rattle.act.proofs.Handing.{settled}
 
--- what an answer of condition k on a and b says of the rule's two tests
+-- what an answer of condition k on x and y says of the rule's two tests
 abbrev Judged : Condition → ℕ → ℕ → ℕ → Type 0
-Judged NotAllowed k a b = allowed k ≡ false
-Judged Holds k a b = (allowed k ≡ true) × (holds k (signed32 a) (signed32 b) ≡ true)
-Judged Fails k a b = (allowed k ≡ true) × (holds k (signed32 a) (signed32 b) ≡ false)
+Judged NotAllowed k x y = allowed k ≡ false
+Judged Holds k x y = (allowed k ≡ true) × (holds k (signed32 x) (signed32 y) ≡ true)
+Judged Fails k x y = (allowed k ≡ true) × (holds k (signed32 x) (signed32 y) ≡ false)
 
-judged : (k a b : ℕ) {c d : Condition} → c ≡ conditionOf k a b → c ≡ d → Judged d k a b
+judged : (k x y : ℕ) {c d : Condition} → c ≡ conditionOf k x y → c ≡ d → Judged d k x y
 unfolding conditionOf
-judged k a b is p = rw (sym p ∙ is) (go (allowed k) (holds k (signed32 a) (signed32 b)) refl refl)
+judged k x y is p = rw (sym p ∙ is) (go (allowed k) (holds k (signed32 x) (signed32 y)) refl refl)
   where
-    go : (x y : Bool) → allowed k ≡ x → holds k (signed32 a) (signed32 b) ≡ y → Judged (cond x (told y) NotAllowed) k a b
+    go : (a h : Bool) → allowed k ≡ a → holds k (signed32 x) (signed32 y) ≡ h → Judged (cond a (told h) NotAllowed) k x y
     go true true p q = (p, q)
     go true false p q = (p, q)
-    go false y p q = p
+    go false h p q = p
 
-module _ (k : ℕ) (t : Target) (r : Registers) {c : Condition} (is : c ≡ conditionOf k (r .first) (r .second)) where
-  pub jump-24 : {q : Stepped} → c ≡ NotAllowed → q ≡ Refused (verdict 24) → Turns q (jumps k t) r
-  jump-24 p q b vs st s = stays _ _ s {n = 24} (rw (judged k _ _ is p)) (rw q)
+-- c answers condition k on the cells' two values
+module _ (k : ℕ) (t : Target) (next : WordIndex) (cs : List ℕ) {x y : ℕ} {c : Condition} (px : x ≡ at cs 1) (py : y ≡ at cs 2) (is : c ≡ conditionOf k x y) where
+  asked : {d : Condition} → c ≡ d → Judged d k (at cs 1) (at cs 2)
+  asked p = rw (← px, ← py) (judged k x y is p)
 
-  pub jump-no : c ≡ Fails → Turns (Done r) (jumps k t) r
-  jump-no p b vs st s = let j = judged k _ _ is p in turns _ _ s (rw (j .0, j .1)) refl (rw (j .1))
+  pub jump-24 : c ≡ NotAllowed → Cells cs → Turns 24 (does (jumps k t) next) cs cs
+  jump-24 p l = record { cells = l; tells = λ b ps vs st s. stays _ _ _ s (rw (asked p)) refl }
 
-  module _ (p : c ≡ Holds) where
-    pub jump-27 : {q : Stepped} → t ≡ Missing → q ≡ Refused (verdict 27) → Turns q (jumps k t) r
-    jump-27 m q b vs st s = let j = judged k _ _ is p in stays _ _ s {n = 27} (rw (j .0, j .1, m)) (rw q)
+  pub jump-27 : c ≡ Holds → t ≡ Refused → Cells cs → Turns 27 (does (jumps k t) next) cs cs
+  jump-27 p m l = let j = asked p in record { cells = l; tells = λ b ps vs st s. stays _ _ _ s (rw (j .0, j .1, m)) refl }
 
-    pub jump-at : {i : WordIndex} → t ≡ At i → (b : Bounds) (vs st s : List ℕ) {X : Shown} → X ≡ went (goto (i .0) (view b r vs st)) s
-        → X ≡ shown (carried (jumps k t (view b r vs st)) (view b r vs st)) (view b r vs st) s
-    jump-at m b vs st s x = let j = judged k _ _ is p in turns _ _ s (rw (j .0, j .1, m)) refl (rw (j .1, m) x)
+  module _ {q : ℕ} {cs' : List ℕ} where
+    pub jump-no : c ≡ Fails → (q ≡ 0) × Recelled (goto (next .0)) cs cs' → Turns q (does (jumps k t) next) cs cs'
+    jump-no p g =
+        let j = asked p in
+        record { cells = g .1 .full; tells = λ b ps vs st s. turns _ _ _ s (rw (j .0, j .1)) refl (rw (j .1) (settled (g .0) (g .1 .shows b ps vs st))) }
+
+    pub jump-at : c ≡ Holds → {i : WordIndex} → t ≡ At i → (q ≡ 0) × Recelled (goto (i .0)) cs cs' → Turns q (does (jumps k t) next) cs cs'
+    jump-at p m g =
+        let j = asked p in
+        record { cells = g .1 .full; tells = λ b ps vs st s. turns _ _ _ s (rw (j .0, j .1, m)) refl (rw (j .1, m) (settled (g .0) (g .1 .shows b ps vs st))) }
+
+-- the target t is what T makes of the environment at the next opcode
+pub jump-aimed : (k : ℕ) {t : Target} (next : WordIndex) (T : Env → Target) → ((e : Env) → t ≡ T (goto (next .0) e)) → {q : ℕ} {cs cs' : List ℕ}
+    → Turns q (does (jumps k t) next) cs cs' → Turns q (does (λ e. jumps k (T e) e) next) cs cs'
+unfolding does
+jump-aimed k next T is p = record { cells = p .cells; tells = λ b ps vs st s. rw (← is _) (p .tells b ps vs st s) }

@@ -1,7 +1,8 @@
--- Points: what two coordinates that are judged make of a point, and what an answer tells of it.
-use Prim.Native.Nat.{_^_, _<_}
-use mathlib.Core.Path.{_≡_, refl, sym, _∙_}
+-- Points: what two coordinates that are judged make of a point, what an answer tells of it, and dots there.
+use Prim.Native.Nat.{ℕ, _^_, _<_}
+use mathlib.Core.Path.{_≡_, refl, sym, ap, _∙_}
 use mathlib.Core.Bool.{Bool, true, false, cond, not, _&&_}
+use mathlib.Core.List.{List}
 use borrow.Author.Tests.{not-false}
 use lib.IntN.{ℤ, _+ℤ_}
 use lib.Signed.{mag}
@@ -10,14 +11,18 @@ use mir.Val.{toZ, ofZ}
 use mir.Facts.{toZ-ofZ}
 use Rattle.numbers.specs.Coordinate.{inWord, coordinate}
 use Rattle.numbers.specs.declared.coordinate.Coordinate.the-variants.{Within, Outside}
+use Rattle.numbers.specs.declared.place.WordIndex.{WordIndex}
 use Rattle.numbers.proofs.Answers.{told-first, told-second, clash}
 use Rattle.raster.specs.declared.dots.Dot.{Dot}
-use Rattle.rules.specs.Opcodes.{far, shifted}
+use Rattle.raster.specs.declared.frame.Bounds.{Bounds}
+use Rattle.rules.specs.Opcodes.{far, shifted, dots}
 use Rattle.rules.proofs.Ranges.{one, other}
 use Rattle.rules.proofs.DoorLaws.{coord}
 use Rattle.act.specs.declared.point.Point.{Point}
 use Rattle.act.specs.declared.point.Point.the-variants as Points
-use Rattle.act.specs.Contracts.{Near}
+use Rattle.act.specs.Held.{registers, look}
+use Rattle.act.specs.Shown.{does}
+use Rattle.act.specs.Contracts.{Paints, Near}
 use Rattle.act.specs.Points.{unless, pointOf, pointBy, paired}
 
 -- s and t: x and y are within a signed word
@@ -47,6 +52,10 @@ sum-judged p d q is px py qx qy = rw (same (p .x) px, same (p .y) py, same (q .x
     same : (z : ℤ) → mag z < 2 ^ 31 → held z ≡ z
     same z h = toZ-ofZ {w = w32} (record { sfits = h })
 
+-- offsets from h, which is the point p
+pub from : {h p : Dot} (d : Dot) {r : Point} → h ≡ p → r ≡ pointBy h d → r ≡ pointBy p d
+from d e is = is ∙ ap (λ p. pointBy p d) e
+
 -- ---- what raster draws: a point that is not far has two coordinates
 pub near : (p : Dot) → far p ≡ false → Near p
 near p e = let t = not-false (inWord (p .x) && inWord (p .y)) e in (coord (p .x) (one _ _ t), coord (p .y) (other (inWord (p .x)) _ t))
@@ -60,3 +69,10 @@ module _ {r : Point} (out : Bool) (p : Dot) (is : r ≡ unless out p) where
   pub told-at : {q : Dot} → r ≡ Points.At q → (out ≡ false) × (q ≡ p)
   unfolding unless
   told-at e = let t = told-second out (λ o. clash (cc)) (sym is ∙ e) in (t .0, cc)
+
+-- ---- dots at p in the colour c, which is the foreground's
+pub foreground : (p : Dot) (next : WordIndex) {c q : ℕ} {b : Bounds} {cs cs' : List ℕ} {ps : List ℤ} {s s' : List ℕ} → c ≡ registers cs ps .colour
+    → Paints q (does (dots p c) next) b cs cs' ps s s' → Paints q (does (λ e. dots p (e .colour) e) next) b cs cs' ps s s'
+unfolding does
+foreground p next {b = b} {cs = cs} {ps = ps} {s = s} e d =
+    record { cells = d .cells; tells = λ vs st. d .tells vs st ∙ ap (λ c. does (dots p c) next (look b cs ps vs st) s) e }

@@ -1,31 +1,49 @@
--- What a division's answer tells of the rule.
+-- What was computed from Vd's value, and put there, is what the op's rule says; and what a division's answer tells of its rule.
 use Prim.Native.Nat.{ℕ}
-use mathlib.Core.Path.{_≡_, sym, _∙_}
+use mathlib.Core.Path.{_≡_, refl, sym, _∙_}
 use mathlib.Core.List.{List}
 use lib.Dec.{eqb}
 use Rattle.numbers.specs.declared.arith.Division.{Division}
 use Rattle.numbers.specs.declared.arith.Division.the-variants.{Gives, ByZero}
+use Rattle.numbers.specs.declared.place.WordIndex.{WordIndex}
 use Rattle.numbers.specs.Number.{unlessZero}
 use Rattle.numbers.proofs.Division.{told-by-zero, told-gives}
-use Rattle.player.specs.Player.{verdict}
-use Rattle.rules.specs.declared.environment.Registers.{Registers}
 use Rattle.rules.specs.declared.opcode.Operands.{Operands}
 use Rattle.rules.specs.Environment.{Env}
-use Rattle.rules.specs.Opcodes.{Rule, gives, refuse}
-use Rattle.act.specs.declared.stepped.Stepped.{Stepped}
-use Rattle.act.specs.declared.stepped.Stepped.the-variants.{Refused}
+use Rattle.rules.specs.Operands.{at}
+use Rattle.rules.specs.Opcodes.{Rule, gives, refuse, old}
 use Rattle.rules.specs.Step.{carried}
+use Rattle.act.specs.Held.{Cells}
+use Rattle.act.specs.Shown.{does}
 use Rattle.act.specs.Contracts.{Sets}
 use Rattle.act.proofs.Acting.{stays}
 
--- n in Vd, unless the divisor is zero
+-- v in Vd, unless the divisor is zero
 abbrev divides : ℕ → Operands → Env → Rule
-divides n o e = refuse 26 (eqb (o .a) 0) (gives n o e)
+divides v o e = refuse 26 (eqb (o .a) 0) (gives v o e)
 
-module _ (n : ℕ) (o : Operands) (r : Registers) (vs : List ℕ) {x : Division} (is : x ≡ unlessZero (o .a) n) where
-  pub by-zero : {q : Stepped} → x ≡ ByZero → q ≡ Refused (verdict 26) → Sets q (divides n o) r vs vs
-  by-zero z p b st s = stays _ _ s {n = 26} (rw (told-by-zero (o .a) n (sym is ∙ z))) (rw p)
+module _ (o : Operands) (next : WordIndex) {cs vs : List ℕ} where
+  -- x is Vd's value: a rule of x
+  module _ {q : ℕ} {cs' vs' : List ℕ} {x : ℕ} (d : x ≡ at vs (o .dest .0)) where
+    pub of-old : (R : ℕ → Env → Rule) → Sets q (does (R x) next) cs cs' vs vs' → Sets q (does (λ e. R (old o e) e) next) cs cs' vs vs'
+    unfolding does
+    of-old R s = record { cells = s .cells; tells = λ b ps st scr. rw (← d) (s .tells b ps st scr) }
 
-  pub by-other : (q : Stepped) (vs′ : List ℕ) {v : ℕ} → x ≡ Gives v → Sets q (gives v o) r vs vs′ → Sets q (divides n o) r vs vs′
-  unfolding carried
-  by-other q vs′ {v} g p b st s = let t = told-gives (o .a) n v (sym is ∙ g) in rw (t .0, ← t .1) (p b st s)
+    -- v is g of x
+    pub computed : (g : ℕ → ℕ) {v : ℕ} → v ≡ g x
+        → Sets q (does (gives v o) next) cs cs' vs vs' → Sets q (does (λ e. gives (g (old o e)) o e) next) cs cs' vs vs'
+    computed g p s = of-old (λ x. gives (g x) o) (rw p at s)
+
+    pub divided : (g : ℕ → ℕ) → Sets q (does (divides (g x) o) next) cs cs' vs vs' → Sets q (does (λ e. divides (g (old o e)) o e) next) cs cs' vs vs'
+    divided g s = of-old (λ x. divides (g x) o) s
+
+  -- the answer x of a division that gives n
+  module _ (n : ℕ) {x : Division} (is : x ≡ unlessZero (o .a) n) where
+    pub by-zero : x ≡ ByZero → Cells cs → Sets 26 (does (divides n o) next) cs cs vs vs
+    by-zero z l = record { cells = l; tells = λ b ps st s. stays _ _ _ s (rw (told-by-zero (o .a) n (sym is ∙ z))) refl }
+
+    pub by-other : {q v : ℕ} {cs' vs' : List ℕ} → x ≡ Gives v → Sets q (does (gives v o) next) cs cs' vs vs' → Sets q (does (divides n o) next) cs cs' vs vs'
+    unfolding does carried
+    by-other {v = v} g p =
+        let t = told-gives (o .a) n v (sym is ∙ g) in
+        record { cells = p .cells; tells = λ b ps st s. rw (t .0, ← t .1) (p .tells b ps st s) }

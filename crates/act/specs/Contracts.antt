@@ -1,35 +1,50 @@
--- What the functions of act promise, by what they may touch: with arrays and screen before, and after.
+-- What the functions of act promise, by what they may touch: what is seen of them is `told` of what they were lent.
 use Prim.Native.Nat.{ℕ, _≤_}
 use mathlib.Core.Path.{_≡_}
 use mathlib.Core.List.{List}
 use lib.ListN.{length}
+use lib.IntN.{ℤ}
 use Rattle.raster.specs.declared.dots.Dot.{Dot}
 use Rattle.raster.specs.declared.frame.Bounds.{Bounds}
 use Rattle.raster.specs.declared.frame.Frame.{Frame}
 use Rattle.raster.specs.Frame.{Coord, Fitting}
 use Rattle.rules.specs.declared.environment.Registers.{Registers}
-use Rattle.rules.specs.Environment.{Env, view}
-use Rattle.rules.specs.Opcodes.{Rule}
-use Rattle.act.specs.declared.stepped.Stepped.{Stepped}
-use Rattle.rules.specs.Step.{carried}
-use Rattle.act.specs.Shown.{shown, seen}
+use Rattle.rules.specs.Environment.{Env}
+use Rattle.rules.specs.Operands.{at}
+use Rattle.act.specs.Held.{registers, look, Cells, Points}
+use Rattle.act.specs.Shown.{Shown, seen}
 
--- what came back is what the rule says of the environment before
-abbrev pub Tells : Stepped → (Env → Rule) → Bounds → Registers → List ℕ → List ℕ → List ℕ → List ℕ → List ℕ → List ℕ → Type 0
-Tells q rule b r vs st s vs' st' s' = seen q b r vs' st' s' ≡ shown (carried (rule (view b r vs st)) (view b r vs st)) (view b r vs st) s
+-- what an opcode must show of an environment and a screen
+abbrev pub Told : Type 0
+Told = Env → List ℕ → Shown
 
--- the same of a function that touches registers alone, variables, the stack, the screen
-abbrev pub Turns : Stepped → (Env → Rule) → Registers → Type 0
-Turns q rule r = (b : Bounds) (vs st s : List ℕ) → Tells q rule b r vs st s vs st s
+-- the number q came back, and cells are changed alone; and variables, the stack, points, the screen, points and the screen
+pub record Turns (q : ℕ) (told : Told) (cs cs' : List ℕ) : Type 0 where
+  pub cells : Cells cs'
+  pub tells : (b : Bounds) (ps : List ℤ) (vs st s : List ℕ) → seen q (look b cs' ps vs st) s ≡ told (look b cs ps vs st) s
 
-abbrev pub Sets : Stepped → (Env → Rule) → Registers → List ℕ → List ℕ → Type 0
-Sets q rule r vs vs' = (b : Bounds) (st s : List ℕ) → Tells q rule b r vs st s vs' st s
+pub record Sets (q : ℕ) (told : Told) (cs cs' vs vs' : List ℕ) : Type 0 where
+  pub cells : Cells cs'
+  pub tells : (b : Bounds) (ps : List ℤ) (st s : List ℕ) → seen q (look b cs' ps vs' st) s ≡ told (look b cs ps vs st) s
 
-abbrev pub Stacks : Stepped → (Env → Rule) → Registers → List ℕ → List ℕ → Type 0
-Stacks q rule r st st' = (b : Bounds) (vs s : List ℕ) → Tells q rule b r vs st s vs st' s
+pub record Stacks (q : ℕ) (told : Told) (cs cs' st st' : List ℕ) : Type 0 where
+  pub cells : Cells cs'
+  pub deep : length st' ≡ 16
+  pub tells : (b : Bounds) (ps : List ℤ) (vs s : List ℕ) → seen q (look b cs' ps vs st') s ≡ told (look b cs ps vs st) s
 
-abbrev pub Paints : Stepped → (Env → Rule) → Bounds → Registers → List ℕ → List ℕ → Type 0
-Paints q rule b r s s' = (vs st : List ℕ) → Tells q rule b r vs st s vs st s'
+pub record Moves (q : ℕ) (told : Told) (cs cs' : List ℕ) (ps ps' : List ℤ) : Type 0 where
+  pub cells : Cells cs'
+  pub points : Points ps'
+  pub tells : (b : Bounds) (vs st s : List ℕ) → seen q (look b cs' ps' vs st) s ≡ told (look b cs ps vs st) s
+
+pub record Paints (q : ℕ) (told : Told) (b : Bounds) (cs cs' : List ℕ) (ps : List ℤ) (s s' : List ℕ) : Type 0 where
+  pub cells : Cells cs'
+  pub tells : (vs st : List ℕ) → seen q (look b cs' ps vs st) s' ≡ told (look b cs ps vs st) s
+
+pub record Draws (q : ℕ) (told : Told) (b : Bounds) (cs cs' : List ℕ) (ps ps' : List ℤ) (s s' : List ℕ) : Type 0 where
+  pub cells : Cells cs'
+  pub points : Points ps'
+  pub tells : (vs st : List ℕ) → seen q (look b cs' ps' vs st) s' ≡ told (look b cs ps vs st) s
 
 -- what may be drawn on
 abbrev pub frameOf : Bounds → Registers → Frame
@@ -40,11 +55,14 @@ abbrev pub Near : Dot → Type 0
 Near p = Coord (p .x) × Coord (p .y)
 
 -- the screen is the frame's, and raster draws from the position
-pub record Drawable (b : Bounds) (r : Registers) (s : List ℕ) : Type 0 where
-  pub fitting : Fitting (frameOf b r) s
-  pub here : Near (r .position)
+pub record Drawable (b : Bounds) (cs : List ℕ) (ps : List ℤ) (s : List ℕ) : Type 0 where
+  pub cells : Cells cs
+  pub points : Points ps
+  pub fitting : Fitting (frameOf b (registers cs ps)) s
+  pub here : Near (registers cs ps .position)
 
 -- at most 16 returns are stacked, in an array of 16
-pub record Stacked (r : Registers) (st : List ℕ) : Type 0 where
-  pub deep : r .depth ≤ 16
+pub record Stacked (cs st : List ℕ) : Type 0 where
+  pub cells : Cells cs
+  pub deep : at cs 3 ≤ 16
   pub full : length st ≡ 16

@@ -1,4 +1,5 @@
 -- What the contracts of act cite.
+pub mod Held
 pub mod Shown
 pub mod Contracts
 pub mod Conditions

@@ -1,6 +1,11 @@
 // Jumps, calls, returns and the end of the list.
-use crate::stepped::Stepped;
-use crate::stepped::refused;
+use crate::registers::depth;
+use crate::registers::first;
+use crate::registers::go_to;
+use crate::registers::second;
+use crate::registers::set_depth;
+use crate::registers::set_state;
+use fetch::source::Taken;
 use numbers::arith::equal;
 use numbers::arith::less;
 use numbers::place::BitAddress;
@@ -8,13 +13,13 @@ use numbers::place::Target;
 use numbers::place::WordIndex;
 use numbers::place::word_at;
 use numbers::place::word_from;
-use rules::environment::Registers;
 use rules::opcode::Op;
 use rules::opcode::Operands;
 ghost use mathlib.Core.Path.{_≡_};
 ghost use Prim.Native.Nat.{ℕ};
-ghost use lib.ListN.{length};
 ghost use Rattle.rules.specs.Opcodes.{jumps, calls, rule};
+ghost use Rattle.act.specs.Held.{Cells};
+ghost use Rattle.act.specs.Shown.{does, answers};
 ghost use Rattle.act.specs.Conditions as Conditions;
 ghost use Rattle.act.specs.Contracts.{Turns, Stacks, Stacked};
 
@@ -51,94 +56,126 @@ fn condition_of(k: u32, first: u32, second: u32) -> Condition
 }
 
 // A jump on condition k: one not taken does not look at its target.
-fn jump_to(k: u32, t: Target, r: Registers) -> Stepped
-    ensures { λ q. ⌜ Turns q (jumps k t) r ⌝ }
+fn jump_to(k: u32, t: Target, next: WordIndex, cells: &mut [u32; 7]) -> u8
+    requires { ⌜ Cells (now cells) ⌝ }
+    ensures { λ q. ⌜ Turns q (does (jumps k t) next) (now (cells .entry)) (now (cells .exit)) ⌝ }
 {
-    let c = condition_of(k, r.first, r.second);
+    let c = condition_of(k, first(&*cells), second(&*cells));
     match c {
-        Condition::NotAllowed => refused(24),
-        Condition::Fails => Stepped::Done(r),
+        Condition::NotAllowed => 24,
+        Condition::Fails => go_to(cells, next),
         Condition::Holds => match t {
-            Target::Refused => refused(27),
-            Target::At(i) => {
-                let mut n = r;
-                n.counter = i;
-                Stepped::Done(n)
-            }
+            Target::Refused => 27,
+            Target::At(i) => go_to(cells, i),
         },
     }
 }
 
-pub fn jump(o: Operands, count: u32, r: Registers) -> Stepped
-    ensures { λ q. ⌜ Turns q (rule Op.Jump o count) r ⌝ }
+pub fn jump(t: Taken, count: u32, cells: &mut [u32; 7]) -> u8
+    requires { ⌜ Cells (now cells) ⌝ }
+    ensures { λ q. ⌜ Turns q (answers t (λ o. rule Op.Jump o count)) (now (cells .entry)) (now (cells .exit)) ⌝ }
 {
-    jump_to(o.a, word_at(BitAddress(o.b), count), r)
+    match t {
+        Taken::Refused(n) => n,
+        Taken::Got(o, next) => jump_to(o.a, word_at(BitAddress(o.b), count), next, cells),
+    }
 }
 
-pub fn jump_by(o: Operands, count: u32, r: Registers) -> Stepped
-    ensures { λ q. ⌜ Turns q (rule Op.JumpBy o count) r ⌝ }
+pub fn jump_by(t: Taken, count: u32, cells: &mut [u32; 7]) -> u8
+    requires { ⌜ Cells (now cells) ⌝ }
+    ensures { λ q. ⌜ Turns q (answers t (λ o. rule Op.JumpBy o count)) (now (cells .entry)) (now (cells .exit)) ⌝ }
 {
-    let next = r.counter;
-    jump_to(o.a, word_from(next, o.b, count), r)
+    match t {
+        Taken::Refused(n) => n,
+        Taken::Got(o, next) => jump_to(o.a, word_from(next, o.b, count), next, cells),
+    }
 }
 
 // A call: the return index is the next opcode's.
-fn call_to(t: Target, r: Registers, stack: &mut [u32; 16]) -> Stepped
-    requires { ⌜ Stacked r (now stack) ⌝ }
-    ensures { λ q. ⌜ Stacks q (calls t) r (now (stack .entry)) (now (stack .exit)) × (length (now (stack .exit)) ≡ 16) ⌝ }
+fn call_to(t: Target, next: WordIndex, cells: &mut [u32; 7], stack: &mut [u32; 16]) -> u8
+    requires { ⌜ Stacked (now cells) (now stack) ⌝ }
+    ensures { λ q. ⌜ Stacks q (does (calls t) next) (now (cells .entry)) (now (cells .exit)) (now (stack .entry)) (now (stack .exit)) ⌝ }
 {
     match t {
-        Target::Refused => refused(27),
+        Target::Refused => 27,
         Target::At(i) => {
-            let depth = r.depth as usize;
-            if 16 <= depth {
-                return refused(28);
+            let d = depth(&*cells);
+            if 16 <= d {
+                return 28;
             }
-            stack[depth] = r.counter.0;
-            let mut n = r;
-            n.counter = i;
-            n.depth = r.depth + 1;
-            Stepped::Done(n)
+            let at = d as usize;
+            stack[at] = next.0;
+            set_depth(cells, d + 1);
+            go_to(cells, i)
         }
     }
 }
 
-pub fn call(o: Operands, count: u32, r: Registers, stack: &mut [u32; 16]) -> Stepped
-    requires { ⌜ Stacked r (now stack) ⌝ }
-    ensures { λ q. ⌜ Stacks q (rule Op.Call o count) r (now (stack .entry)) (now (stack .exit)) × (length (now (stack .exit)) ≡ 16) ⌝ }
+pub fn call(t: Taken, count: u32, cells: &mut [u32; 7], stack: &mut [u32; 16]) -> u8
+    requires { ⌜ Stacked (now cells) (now stack) ⌝ }
+    ensures { λ q. ⌜ Stacks q (answers t (λ o. rule Op.Call o count)) (now (cells .entry)) (now (cells .exit)) (now (stack .entry)) (now (stack .exit)) ⌝ }
 {
-    call_to(word_at(BitAddress(o.a), count), r, stack)
-}
-
-pub fn call_by(o: Operands, count: u32, r: Registers, stack: &mut [u32; 16]) -> Stepped
-    requires { ⌜ Stacked r (now stack) ⌝ }
-    ensures { λ q. ⌜ Stacks q (rule Op.CallBy o count) r (now (stack .entry)) (now (stack .exit)) × (length (now (stack .exit)) ≡ 16) ⌝ }
-{
-    let next = r.counter;
-    call_to(word_from(next, o.a, count), r, stack)
-}
-
-// Back to the last return stacked, untested.
-pub fn come_back(o: Operands, r: Registers, stack: &[u32; 16]) -> Stepped
-    requires { ⌜ Stacked r (now stack) ⌝ }
-    ensures { λ q. ⌜ ((n : ℕ) → Stacks q (rule Op.Return o n) r (now (stack .entry)) (now (stack .entry))) ⌝ }
-{
-    if r.depth == 0 {
-        return refused(29);
+    match t {
+        Taken::Refused(n) => n,
+        Taken::Got(o, next) => call_to(word_at(BitAddress(o.a), count), next, cells, stack),
     }
-    let top = r.depth - 1;
-    let at = top as usize;
-    let last = WordIndex(stack[at]);
-    let mut n = r;
-    n.counter = last;
-    n.depth = top;
-    Stepped::Done(n)
 }
 
-pub fn end(o: Operands, r: Registers) -> Stepped
-    ensures { λ q. ⌜ ((n : ℕ) → Turns q (rule Op.End o n) r) ⌝ }
+pub fn call_by(t: Taken, count: u32, cells: &mut [u32; 7], stack: &mut [u32; 16]) -> u8
+    requires { ⌜ Stacked (now cells) (now stack) ⌝ }
+    ensures { λ q. ⌜ Stacks q (answers t (λ o. rule Op.CallBy o count)) (now (cells .entry)) (now (cells .exit)) (now (stack .entry)) (now (stack .exit)) ⌝ }
 {
-    let mut n = r;
-    n.state = 1;
-    Stepped::Done(n)
+    match t {
+        Taken::Refused(n) => n,
+        Taken::Got(o, next) => call_to(word_from(next, o.a, count), next, cells, stack),
+    }
+}
+
+// To the last return stacked, untested.
+fn back(cells: &mut [u32; 7], stack: &[u32; 16]) -> u8
+    requires { ⌜ Stacked (now cells) (now stack) ⌝ }
+    ensures { λ q.
+        ⌜ ((o : Operands) (n : ℕ) (next : WordIndex)
+        → Stacks q (does (rule Op.Return o n) next) (now (cells .entry)) (now (cells .exit)) (now (stack .entry)) (now (stack .entry))) ⌝ }
+{
+    let d = depth(&*cells);
+    if d == 0 {
+        return 29;
+    }
+    let at = (d - 1) as usize;
+    set_depth(cells, d - 1);
+    go_to(cells, WordIndex(stack[at]))
+}
+
+pub fn come_back(t: Taken, cells: &mut [u32; 7], stack: &[u32; 16]) -> u8
+    requires { ⌜ Stacked (now cells) (now stack) ⌝ }
+    ensures { λ q. ⌜ ((n : ℕ) → Stacks q (answers t (λ o. rule Op.Return o n)) (now (cells .entry)) (now (cells .exit)) (now (stack .entry)) (now (stack .entry))) ⌝ }
+{
+    match t {
+        Taken::Refused(n) => n,
+        Taken::Got(_, _) => back(cells, stack),
+    }
+}
+
+pub fn noop(t: Taken, cells: &mut [u32; 7]) -> u8
+    requires { ⌜ Cells (now cells) ⌝ }
+    ensures { λ q. ⌜ ((n : ℕ) → Turns q (answers t (λ o. rule Op.Noop o n)) (now (cells .entry)) (now (cells .exit))) ⌝ }
+{
+    match t {
+        Taken::Refused(n) => n,
+        Taken::Got(_, next) => go_to(cells, next),
+    }
+}
+
+pub fn end(t: Taken, cells: &mut [u32; 7]) -> u8
+    requires { ⌜ Cells (now cells) ⌝ }
+    ensures { λ q. ⌜ ((n : ℕ) → Turns q (answers t (λ o. rule Op.End o n)) (now (cells .entry)) (now (cells .exit))) ⌝ }
+{
+    match t {
+        Taken::Refused(n) => n,
+        Taken::Got(_, next) => {
+            set_state(cells, 1);
+            go_to(cells, next)
+        }
+    }
 }

@@ -2,8 +2,14 @@
 use crate::point::Point;
 use crate::point::point_by;
 use crate::point::point_of;
-use crate::stepped::Stepped;
-use crate::stepped::refused;
+use crate::registers::colour;
+use crate::registers::go_to;
+use crate::registers::mode;
+use crate::registers::position;
+use crate::registers::set_position;
+use crate::registers::window;
+use fetch::source::Taken;
+use numbers::place::WordIndex;
 use raster::dots::Dot;
 use raster::dots::plot;
 use raster::fill::fill;
@@ -11,120 +17,197 @@ use raster::frame::Bounds;
 use raster::frame::Frame;
 use raster::line::Line;
 use raster::line::draw_line;
-use rules::environment::Registers;
 use rules::opcode::Op;
-use rules::opcode::Operands;
 ghost use mathlib.Core.Path.{_≡_};
 ghost use Prim.Native.Nat.{ℕ};
 ghost use Rattle.raster.specs.Line as Lines;
 ghost use Rattle.raster.specs.Paint.{paint};
+ghost use Rattle.rules.specs.Environment.{moved};
 ghost use Rattle.rules.specs.Opcodes as Opcodes;
-ghost use Rattle.rules.specs.Opcodes.{dots, rule};
-ghost use Rattle.act.specs.Contracts.{Paints, Drawable, Near, frameOf};
+ghost use Rattle.rules.specs.Opcodes.{dots, paints, rule};
+ghost use Rattle.act.specs.Held.{registers};
+ghost use Rattle.act.specs.Shown.{does, answers};
+ghost use Rattle.act.specs.Contracts.{Paints, Draws, Drawable, Near, frameOf};
 
 // Screen, pane, mode and window: what may be drawn on.
-fn frame(b: Bounds, r: Registers) -> Frame
-    ensures { λ f. ⌜ f ≡ frameOf b r ⌝ }
+fn frame(b: Bounds, cells: &[u32; 7], points: &[i32; 6]) -> Frame
+    ensures { λ f. ⌜ f ≡ frameOf b (registers (now (cells .entry)) (now (points .entry))) ⌝ }
 {
-    let window = r.window;
     Frame {
         bounds: b,
-        mode: r.mode,
-        window,
+        mode: mode(cells),
+        window: window(points),
     }
 }
 
 // One dot at the point (x, y).
-fn dot_at(x: u32, y: u32, c: u8, b: Bounds, r: Registers, screen: &mut [u8]) -> Stepped
-    requires { ⌜ Drawable b r (now screen) ⌝ }
-    ensures { λ q. ⌜ Paints q (dots (Opcodes.point x y) c) b r (now (screen .entry)) (now (screen .exit)) ⌝ }
+fn dot_at(
+    x: u32,
+    y: u32,
+    c: u8,
+    next: WordIndex,
+    b: Bounds,
+    cells: &mut [u32; 7],
+    points: &[i32; 6],
+    screen: &mut [u8],
+) -> u8
+    requires { ⌜ Drawable b (now cells) (now points) (now screen) ⌝ }
+    ensures { λ q. ⌜ Paints q (does (dots (Opcodes.point x y) c) next) b (now (cells .entry)) (now (cells .exit)) (now (points .entry)) (now (screen .entry)) (now (screen .exit)) ⌝ }
 {
     let Point::At(p) = point_of(x, y) else {
-        return refused(25);
+        return 25;
     };
-    plot(screen, frame(b, r), p, c);
-    Stepped::Done(r)
+    plot(screen, frame(b, &*cells, points), p, c);
+    go_to(cells, next)
 }
 
-pub fn pixel(o: Operands, b: Bounds, r: Registers, screen: &mut [u8]) -> Stepped
-    requires { ⌜ Drawable b r (now screen) ⌝ }
-    ensures { λ q. ⌜ ((n : ℕ) → Paints q (rule Op.Pixel o n) b r (now (screen .entry)) (now (screen .exit))) ⌝ }
+pub fn pixel(t: Taken, b: Bounds, cells: &mut [u32; 7], points: &[i32; 6], screen: &mut [u8]) -> u8
+    requires { ⌜ Drawable b (now cells) (now points) (now screen) ⌝ }
+    ensures { λ q. ⌜ ((n : ℕ) → Paints q (answers t (λ o. rule Op.Pixel o n)) b (now (cells .entry)) (now (cells .exit)) (now (points .entry)) (now (screen .entry)) (now (screen .exit))) ⌝ }
 {
-    dot_at(o.a, o.b, r.colour, b, r, screen)
+    match t {
+        Taken::Refused(n) => n,
+        Taken::Got(o, next) => {
+            let c = colour(&*cells);
+            dot_at(o.a, o.b, c, next, b, cells, points, screen)
+        }
+    }
 }
 
-pub fn pixel_colour(o: Operands, b: Bounds, r: Registers, screen: &mut [u8]) -> Stepped
-    requires { ⌜ Drawable b r (now screen) ⌝ }
-    ensures { λ q. ⌜ ((n : ℕ) → Paints q (rule Op.PixelColour o n) b r (now (screen .entry)) (now (screen .exit))) ⌝ }
+pub fn pixel_colour(
+    t: Taken,
+    b: Bounds,
+    cells: &mut [u32; 7],
+    points: &[i32; 6],
+    screen: &mut [u8],
+) -> u8
+    requires { ⌜ Drawable b (now cells) (now points) (now screen) ⌝ }
+    ensures { λ q. ⌜ ((n : ℕ) → Paints q (answers t (λ o. rule Op.PixelColour o n)) b (now (cells .entry)) (now (cells .exit)) (now (points .entry)) (now (screen .entry)) (now (screen .exit))) ⌝ }
 {
-    dot_at(o.a, o.b, (o.c % 256) as u8, b, r, screen)
+    match t {
+        Taken::Refused(n) => n,
+        Taken::Got(o, next) => {
+            let c = (o.c % 256) as u8;
+            dot_at(o.a, o.b, c, next, b, cells, points, screen)
+        }
+    }
 }
 
 // A line in the foreground colour.
-fn stroke(p: Dot, q: Dot, b: Bounds, r: Registers, screen: &mut [u8])
-    requires { ⌜ Drawable b r (now screen) ⌝ }
+fn stroke(p: Dot, q: Dot, b: Bounds, cells: &[u32; 7], points: &[i32; 6], screen: &mut [u8])
+    requires { ⌜ Drawable b (now cells) (now points) (now screen) ⌝ }
     requires { ⌜ Near p × Near q ⌝ }
-    ensures { λ _. ⌜ now (screen .exit) ≡ paint (frameOf b r) (Lines.line (record { from = p; to = q })) (r .colour) (now (screen .entry)) ⌝ }
+    ensures { λ _.
+        ⌜ now (screen .exit)
+        ≡ paint (frameOf b (registers (now (cells .entry)) (now (points .entry)))) (Lines.line (record { from = p; to = q })) (registers (now (cells .entry)) (now (points .entry)) .colour) (now (screen .entry)) ⌝ }
 {
-    draw_line(screen, frame(b, r), Line { from: p, to: q }, r.colour);
+    draw_line(
+        screen,
+        frame(b, cells, points),
+        Line { from: p, to: q },
+        colour(cells),
+    );
 }
 
-pub fn line(o: Operands, b: Bounds, r: Registers, screen: &mut [u8]) -> Stepped
-    requires { ⌜ Drawable b r (now screen) ⌝ }
-    ensures { λ q. ⌜ ((n : ℕ) → Paints q (rule Op.Line o n) b r (now (screen .entry)) (now (screen .exit))) ⌝ }
+pub fn line(t: Taken, b: Bounds, cells: &mut [u32; 7], points: &[i32; 6], screen: &mut [u8]) -> u8
+    requires { ⌜ Drawable b (now cells) (now points) (now screen) ⌝ }
+    ensures { λ q. ⌜ ((n : ℕ) → Paints q (answers t (λ o. rule Op.Line o n)) b (now (cells .entry)) (now (cells .exit)) (now (points .entry)) (now (screen .entry)) (now (screen .exit))) ⌝ }
 {
-    if 0 < o.a {
-        return refused(24);
+    match t {
+        Taken::Refused(n) => n,
+        Taken::Got(o, next) => {
+            if 0 < o.a {
+                return 24;
+            }
+            let Point::At(p) = point_of(o.b, o.c) else {
+                return 25;
+            };
+            let Point::At(q) = point_of(o.d, o.e) else {
+                return 25;
+            };
+            stroke(p, q, b, &*cells, points, screen);
+            go_to(cells, next)
+        }
     }
-    let Point::At(p) = point_of(o.b, o.c) else {
-        return refused(25);
-    };
-    let Point::At(q) = point_of(o.d, o.e) else {
-        return refused(25);
-    };
-    stroke(p, q, b, r, screen);
-    Stepped::Done(r)
 }
 
-pub fn line_to(o: Operands, b: Bounds, r: Registers, screen: &mut [u8]) -> Stepped
-    requires { ⌜ Drawable b r (now screen) ⌝ }
-    ensures { λ q. ⌜ ((n : ℕ) → Paints q (rule Op.LineTo o n) b r (now (screen .entry)) (now (screen .exit))) ⌝ }
+// A line from the position to q, and the position there.
+fn draw_to(
+    q: Dot,
+    next: WordIndex,
+    b: Bounds,
+    cells: &mut [u32; 7],
+    points: &mut [i32; 6],
+    screen: &mut [u8],
+) -> u8
+    requires { ⌜ Drawable b (now cells) (now points) (now screen) × Near q ⌝ }
+    ensures { λ r. ⌜ Draws r (does (λ e. paints (Lines.line (record { from = e .position; to = q })) (e .colour) (moved q e)) next) b (now (cells .entry)) (now (cells .exit)) (now (points .entry)) (now (points .exit)) (now (screen .entry)) (now (screen .exit)) ⌝ }
 {
-    if 0 < o.a {
-        return refused(24);
-    }
-    let Point::At(q) = point_of(o.b, o.c) else {
-        return refused(25);
-    };
-    let here = r.position;
-    stroke(here, q, b, r, screen);
-    let mut n = r;
-    n.position = q;
-    Stepped::Done(n)
+    let here = position(&*points);
+    stroke(here, q, b, &*cells, &*points, screen);
+    set_position(points, q);
+    go_to(cells, next)
 }
 
-pub fn line_by(o: Operands, b: Bounds, r: Registers, screen: &mut [u8]) -> Stepped
-    requires { ⌜ Drawable b r (now screen) ⌝ }
-    ensures { λ q. ⌜ ((n : ℕ) → Paints q (rule Op.LineBy o n) b r (now (screen .entry)) (now (screen .exit))) ⌝ }
+pub fn line_to(
+    t: Taken,
+    b: Bounds,
+    cells: &mut [u32; 7],
+    points: &mut [i32; 6],
+    screen: &mut [u8],
+) -> u8
+    requires { ⌜ Drawable b (now cells) (now points) (now screen) ⌝ }
+    ensures { λ q. ⌜ ((n : ℕ) → Draws q (answers t (λ o. rule Op.LineTo o n)) b (now (cells .entry)) (now (cells .exit)) (now (points .entry)) (now (points .exit)) (now (screen .entry)) (now (screen .exit))) ⌝ }
 {
-    if 0 < o.a {
-        return refused(24);
+    match t {
+        Taken::Refused(n) => n,
+        Taken::Got(o, next) => {
+            if 0 < o.a {
+                return 24;
+            }
+            let Point::At(q) = point_of(o.b, o.c) else {
+                return 25;
+            };
+            draw_to(q, next, b, cells, points, screen)
+        }
     }
-    let here = r.position;
-    let Point::At(q) = point_by(here, o.b, o.c) else {
-        return refused(25);
-    };
-    stroke(here, q, b, r, screen);
-    let mut n = r;
-    n.position = q;
-    Stepped::Done(n)
+}
+
+pub fn line_by(
+    t: Taken,
+    b: Bounds,
+    cells: &mut [u32; 7],
+    points: &mut [i32; 6],
+    screen: &mut [u8],
+) -> u8
+    requires { ⌜ Drawable b (now cells) (now points) (now screen) ⌝ }
+    ensures { λ q. ⌜ ((n : ℕ) → Draws q (answers t (λ o. rule Op.LineBy o n)) b (now (cells .entry)) (now (cells .exit)) (now (points .entry)) (now (points .exit)) (now (screen .entry)) (now (screen .exit))) ⌝ }
+{
+    match t {
+        Taken::Refused(n) => n,
+        Taken::Got(o, next) => {
+            if 0 < o.a {
+                return 24;
+            }
+            let here = position(&*points);
+            let Point::At(q) = point_by(here, o.b, o.c) else {
+                return 25;
+            };
+            draw_to(q, next, b, cells, points, screen)
+        }
+    }
 }
 
 // Every drawable pixel; the wait word is ignored.
-pub fn clear(o: Operands, b: Bounds, r: Registers, screen: &mut [u8]) -> Stepped
-    requires { ⌜ Drawable b r (now screen) ⌝ }
-    ensures { λ q. ⌜ ((n : ℕ) → Paints q (rule Op.Clear o n) b r (now (screen .entry)) (now (screen .exit))) ⌝ }
+pub fn clear(t: Taken, b: Bounds, cells: &mut [u32; 7], points: &[i32; 6], screen: &mut [u8]) -> u8
+    requires { ⌜ Drawable b (now cells) (now points) (now screen) ⌝ }
+    ensures { λ q. ⌜ ((n : ℕ) → Paints q (answers t (λ o. rule Op.Clear o n)) b (now (cells .entry)) (now (cells .exit)) (now (points .entry)) (now (screen .entry)) (now (screen .exit))) ⌝ }
 {
-    fill(screen, frame(b, r), (o.a % 256) as u8);
-    Stepped::Done(r)
+    match t {
+        Taken::Refused(n) => n,
+        Taken::Got(o, next) => {
+            fill(screen, frame(b, &*cells, points), (o.a % 256) as u8);
+            go_to(cells, next)
+        }
+    }
 }

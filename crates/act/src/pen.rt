@@ -2,28 +2,38 @@
 use crate::point::Point;
 use crate::point::point_by;
 use crate::point::point_of;
-use crate::stepped::Stepped;
-use crate::stepped::refused;
+use crate::registers::go_to;
+use crate::registers::position;
+use crate::registers::set_colour;
+use crate::registers::set_mode;
+use crate::registers::set_position;
+use crate::registers::set_window;
+use fetch::source::Taken;
 use raster::dots::Dot;
 use raster::frame::Window;
-use rules::environment::Registers;
 use rules::opcode::Op;
-use rules::opcode::Operands;
 ghost use mathlib.Core.Path.{_≡_};
 ghost use Prim.Native.Nat.{ℕ};
 ghost use Rattle.rules.specs.Opcodes as Opcodes;
 ghost use Rattle.rules.specs.Opcodes.{rule};
-ghost use Rattle.act.specs.Contracts.{Turns};
+ghost use Rattle.act.specs.Held.{Cells, Points};
+ghost use Rattle.act.specs.Shown.{answers};
+ghost use Rattle.act.specs.Contracts.{Turns, Moves};
 
-pub fn clip_mode(o: Operands, r: Registers) -> Stepped
-    ensures { λ q. ⌜ ((n : ℕ) → Turns q (rule Op.ClipMode o n) r) ⌝ }
+pub fn clip_mode(t: Taken, cells: &mut [u32; 7]) -> u8
+    requires { ⌜ Cells (now cells) ⌝ }
+    ensures { λ q. ⌜ ((n : ℕ) → Turns q (answers t (λ o. rule Op.ClipMode o n)) (now (cells .entry)) (now (cells .exit))) ⌝ }
 {
-    if 2 < o.a {
-        return refused(24);
+    match t {
+        Taken::Refused(n) => n,
+        Taken::Got(o, next) => {
+            if 2 < o.a {
+                return 24;
+            }
+            set_mode(cells, o.a);
+            go_to(cells, next)
+        }
     }
-    let mut n = r;
-    n.mode = o.a;
-    Stepped::Done(n)
 }
 
 // The window of two corners.
@@ -38,48 +48,68 @@ fn window(p: Dot, q: Dot) -> Window
     }
 }
 
-pub fn clip_window(o: Operands, r: Registers) -> Stepped
-    ensures { λ q. ⌜ ((n : ℕ) → Turns q (rule Op.ClipWindow o n) r) ⌝ }
+pub fn clip_window(t: Taken, cells: &mut [u32; 7], points: &mut [i32; 6]) -> u8
+    requires { ⌜ Cells (now cells) × Points (now points) ⌝ }
+    ensures { λ q. ⌜ ((n : ℕ) → Moves q (answers t (λ o. rule Op.ClipWindow o n)) (now (cells .entry)) (now (cells .exit)) (now (points .entry)) (now (points .exit))) ⌝ }
 {
-    let Point::At(p) = point_of(o.a, o.b) else {
-        return refused(25);
-    };
-    let Point::At(q) = point_of(o.c, o.d) else {
-        return refused(25);
-    };
-    let mut n = r;
-    n.window = window(p, q);
-    Stepped::Done(n)
+    match t {
+        Taken::Refused(n) => n,
+        Taken::Got(o, next) => {
+            let Point::At(p) = point_of(o.a, o.b) else {
+                return 25;
+            };
+            let Point::At(q) = point_of(o.c, o.d) else {
+                return 25;
+            };
+            set_window(points, window(p, q));
+            go_to(cells, next)
+        }
+    }
 }
 
 // The low 8 bits.
-pub fn colour(o: Operands, r: Registers) -> Stepped
-    ensures { λ q. ⌜ ((n : ℕ) → Turns q (rule Op.Colour o n) r) ⌝ }
+pub fn colour(t: Taken, cells: &mut [u32; 7]) -> u8
+    requires { ⌜ Cells (now cells) ⌝ }
+    ensures { λ q. ⌜ ((n : ℕ) → Turns q (answers t (λ o. rule Op.Colour o n)) (now (cells .entry)) (now (cells .exit))) ⌝ }
 {
-    let mut n = r;
-    n.colour = (o.a % 256) as u8;
-    Stepped::Done(n)
+    match t {
+        Taken::Refused(n) => n,
+        Taken::Got(o, next) => {
+            set_colour(cells, (o.a % 256) as u8);
+            go_to(cells, next)
+        }
+    }
 }
 
-pub fn move_to(o: Operands, r: Registers) -> Stepped
-    ensures { λ q. ⌜ ((n : ℕ) → Turns q (rule Op.MoveTo o n) r) ⌝ }
+pub fn move_to(t: Taken, cells: &mut [u32; 7], points: &mut [i32; 6]) -> u8
+    requires { ⌜ Cells (now cells) × Points (now points) ⌝ }
+    ensures { λ q. ⌜ ((n : ℕ) → Moves q (answers t (λ o. rule Op.MoveTo o n)) (now (cells .entry)) (now (cells .exit)) (now (points .entry)) (now (points .exit))) ⌝ }
 {
-    let Point::At(p) = point_of(o.a, o.b) else {
-        return refused(25);
-    };
-    let mut n = r;
-    n.position = p;
-    Stepped::Done(n)
+    match t {
+        Taken::Refused(n) => n,
+        Taken::Got(o, next) => {
+            let Point::At(p) = point_of(o.a, o.b) else {
+                return 25;
+            };
+            set_position(points, p);
+            go_to(cells, next)
+        }
+    }
 }
 
-pub fn move_by(o: Operands, r: Registers) -> Stepped
-    ensures { λ q. ⌜ ((n : ℕ) → Turns q (rule Op.MoveBy o n) r) ⌝ }
+pub fn move_by(t: Taken, cells: &mut [u32; 7], points: &mut [i32; 6]) -> u8
+    requires { ⌜ Cells (now cells) × Points (now points) ⌝ }
+    ensures { λ q. ⌜ ((n : ℕ) → Moves q (answers t (λ o. rule Op.MoveBy o n)) (now (cells .entry)) (now (cells .exit)) (now (points .entry)) (now (points .exit))) ⌝ }
 {
-    let here = r.position;
-    let Point::At(p) = point_by(here, o.a, o.b) else {
-        return refused(25);
-    };
-    let mut n = r;
-    n.position = p;
-    Stepped::Done(n)
+    match t {
+        Taken::Refused(n) => n,
+        Taken::Got(o, next) => {
+            let here = position(&*points);
+            let Point::At(p) = point_by(here, o.a, o.b) else {
+                return 25;
+            };
+            set_position(points, p);
+            go_to(cells, next)
+        }
+    }
 }

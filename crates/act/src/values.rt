@@ -1,9 +1,10 @@
 // Variables: loading, arithmetic, logic, and the two values compared.
-use crate::stepped::Stepped;
-use crate::stepped::refused;
+use crate::registers::go_to;
+use crate::registers::keep_compared;
+use fetch::source::Taken;
 use numbers::arith;
 use numbers::arith::Division;
-use rules::environment::Registers;
+use numbers::place::WordIndex;
 use rules::opcode::Op;
 use rules::opcode::Operands;
 ghost use mathlib.Core.Path.{_≡_};
@@ -12,116 +13,173 @@ ghost use lib.Dec.{eqb};
 ghost use Rattle.numbers.specs.Number.{unlessZero};
 ghost use Rattle.rules.specs.Operands.{at};
 ghost use Rattle.rules.specs.Opcodes.{gives, refuse, rule};
+ghost use Rattle.fetch.specs.Stages.{Named};
+ghost use Rattle.act.specs.Held.{Cells};
+ghost use Rattle.act.specs.Shown.{does, answers};
 ghost use Rattle.act.specs.Contracts.{Sets};
 
 // Vd's value.
 fn old(o: Operands, vars: &[u32; 64]) -> u32
     requires { ⌜ o .dest .0 < 64 ⌝ }
-    ensures { λ v. ⌜ v ≡ at (now (vars .entry)) (o .dest .0) ⌝ }
+    ensures { λ r. ⌜ r ≡ at (now (vars .entry)) (o .dest .0) ⌝ }
 {
     let d = o.dest.0 as usize;
     vars[d]
 }
 
 // A value into Vd.
-fn put(o: Operands, v: u32, r: Registers, vars: &mut [u32; 64]) -> Stepped
-    requires { ⌜ o .dest .0 < 64 ⌝ }
-    ensures { λ q. ⌜ Sets q (gives v o) r (now (vars .entry)) (now (vars .exit)) ⌝ }
+fn put(o: Operands, next: WordIndex, v: u32, cells: &mut [u32; 7], vars: &mut [u32; 64]) -> u8
+    requires { ⌜ (o .dest .0 < 64) × Cells (now cells) ⌝ }
+    ensures { λ q. ⌜ Sets q (does (gives v o) next) (now (cells .entry)) (now (cells .exit)) (now (vars .entry)) (now (vars .exit)) ⌝ }
 {
     let d = o.dest.0 as usize;
     vars[d] = v;
-    Stepped::Done(r)
+    go_to(cells, next)
 }
 
-pub fn load(o: Operands, r: Registers, vars: &mut [u32; 64]) -> Stepped
-    requires { ⌜ o .dest .0 < 64 ⌝ }
-    ensures { λ q. ⌜ ((n : ℕ) → Sets q (rule Op.Load o n) r (now (vars .entry)) (now (vars .exit))) ⌝ }
+pub fn load(t: Taken, cells: &mut [u32; 7], vars: &mut [u32; 64]) -> u8
+    requires { ⌜ Named t × Cells (now cells) ⌝ }
+    ensures { λ q. ⌜ ((n : ℕ) → Sets q (answers t (λ o. rule Op.Load o n)) (now (cells .entry)) (now (cells .exit)) (now (vars .entry)) (now (vars .exit))) ⌝ }
 {
-    put(o, o.a, r, vars)
-}
-
-pub fn add(o: Operands, r: Registers, vars: &mut [u32; 64]) -> Stepped
-    requires { ⌜ o .dest .0 < 64 ⌝ }
-    ensures { λ q. ⌜ ((n : ℕ) → Sets q (rule Op.Add o n) r (now (vars .entry)) (now (vars .exit))) ⌝ }
-{
-    let v = arith::add(old(o, &*vars), o.a);
-    put(o, v, r, vars)
-}
-
-pub fn and(o: Operands, r: Registers, vars: &mut [u32; 64]) -> Stepped
-    requires { ⌜ o .dest .0 < 64 ⌝ }
-    ensures { λ q. ⌜ ((n : ℕ) → Sets q (rule Op.And o n) r (now (vars .entry)) (now (vars .exit))) ⌝ }
-{
-    let v = arith::and(old(o, &*vars), o.a);
-    put(o, v, r, vars)
-}
-
-pub fn or(o: Operands, r: Registers, vars: &mut [u32; 64]) -> Stepped
-    requires { ⌜ o .dest .0 < 64 ⌝ }
-    ensures { λ q. ⌜ ((n : ℕ) → Sets q (rule Op.Or o n) r (now (vars .entry)) (now (vars .exit))) ⌝ }
-{
-    let v = arith::or(old(o, &*vars), o.a);
-    put(o, v, r, vars)
-}
-
-pub fn multiply(o: Operands, r: Registers, vars: &mut [u32; 64]) -> Stepped
-    requires { ⌜ o .dest .0 < 64 ⌝ }
-    ensures { λ q. ⌜ ((n : ℕ) → Sets q (rule Op.Multiply o n) r (now (vars .entry)) (now (vars .exit))) ⌝ }
-{
-    let v = arith::mul(old(o, &*vars), o.a);
-    put(o, v, r, vars)
-}
-
-pub fn increment(o: Operands, r: Registers, vars: &mut [u32; 64]) -> Stepped
-    requires { ⌜ o .dest .0 < 64 ⌝ }
-    ensures { λ q. ⌜ ((n : ℕ) → Sets q (rule Op.Increment o n) r (now (vars .entry)) (now (vars .exit))) ⌝ }
-{
-    let v = arith::inc(old(o, &*vars));
-    put(o, v, r, vars)
-}
-
-pub fn decrement(o: Operands, r: Registers, vars: &mut [u32; 64]) -> Stepped
-    requires { ⌜ o .dest .0 < 64 ⌝ }
-    ensures { λ q. ⌜ ((n : ℕ) → Sets q (rule Op.Decrement o n) r (now (vars .entry)) (now (vars .exit))) ⌝ }
-{
-    let v = arith::dec(old(o, &*vars));
-    put(o, v, r, vars)
-}
-
-// A division's answer: into Vd, or 26.
-fn put_unless_zero(o: Operands, x: Division, r: Registers, vars: &mut [u32; 64]) -> Stepped
-    requires { ⌜ o .dest .0 < 64 ⌝ }
-    ensures { λ q. ⌜ ((v : ℕ) → x ≡ unlessZero (o .a) v → Sets q (λ e. refuse 26 (eqb (o .a) 0) (gives v o e)) r (now (vars .entry)) (now (vars .exit))) ⌝ }
-{
-    match x {
-        Division::ByZero => refused(26),
-        Division::Gives(v) => put(o, v, r, vars),
+    match t {
+        Taken::Refused(n) => n,
+        Taken::Got(o, next) => put(o, next, o.a, cells, vars),
     }
 }
 
-pub fn divide(o: Operands, r: Registers, vars: &mut [u32; 64]) -> Stepped
-    requires { ⌜ o .dest .0 < 64 ⌝ }
-    ensures { λ q. ⌜ ((n : ℕ) → Sets q (rule Op.Divide o n) r (now (vars .entry)) (now (vars .exit))) ⌝ }
+pub fn add(t: Taken, cells: &mut [u32; 7], vars: &mut [u32; 64]) -> u8
+    requires { ⌜ Named t × Cells (now cells) ⌝ }
+    ensures { λ q. ⌜ ((n : ℕ) → Sets q (answers t (λ o. rule Op.Add o n)) (now (cells .entry)) (now (cells .exit)) (now (vars .entry)) (now (vars .exit))) ⌝ }
 {
-    let x = arith::quotient(old(o, &*vars), o.a);
-    put_unless_zero(o, x, r, vars)
+    match t {
+        Taken::Refused(n) => n,
+        Taken::Got(o, next) => {
+            let v = arith::add(old(o, &*vars), o.a);
+            put(o, next, v, cells, vars)
+        }
+    }
 }
 
-pub fn remainder(o: Operands, r: Registers, vars: &mut [u32; 64]) -> Stepped
-    requires { ⌜ o .dest .0 < 64 ⌝ }
-    ensures { λ q. ⌜ ((n : ℕ) → Sets q (rule Op.Remainder o n) r (now (vars .entry)) (now (vars .exit))) ⌝ }
+pub fn and(t: Taken, cells: &mut [u32; 7], vars: &mut [u32; 64]) -> u8
+    requires { ⌜ Named t × Cells (now cells) ⌝ }
+    ensures { λ q. ⌜ ((n : ℕ) → Sets q (answers t (λ o. rule Op.And o n)) (now (cells .entry)) (now (cells .exit)) (now (vars .entry)) (now (vars .exit))) ⌝ }
 {
-    let x = arith::remainder(old(o, &*vars), o.a);
-    put_unless_zero(o, x, r, vars)
+    match t {
+        Taken::Refused(n) => n,
+        Taken::Got(o, next) => {
+            let v = arith::and(old(o, &*vars), o.a);
+            put(o, next, v, cells, vars)
+        }
+    }
+}
+
+pub fn or(t: Taken, cells: &mut [u32; 7], vars: &mut [u32; 64]) -> u8
+    requires { ⌜ Named t × Cells (now cells) ⌝ }
+    ensures { λ q. ⌜ ((n : ℕ) → Sets q (answers t (λ o. rule Op.Or o n)) (now (cells .entry)) (now (cells .exit)) (now (vars .entry)) (now (vars .exit))) ⌝ }
+{
+    match t {
+        Taken::Refused(n) => n,
+        Taken::Got(o, next) => {
+            let v = arith::or(old(o, &*vars), o.a);
+            put(o, next, v, cells, vars)
+        }
+    }
+}
+
+pub fn multiply(t: Taken, cells: &mut [u32; 7], vars: &mut [u32; 64]) -> u8
+    requires { ⌜ Named t × Cells (now cells) ⌝ }
+    ensures { λ q. ⌜ ((n : ℕ) → Sets q (answers t (λ o. rule Op.Multiply o n)) (now (cells .entry)) (now (cells .exit)) (now (vars .entry)) (now (vars .exit))) ⌝ }
+{
+    match t {
+        Taken::Refused(n) => n,
+        Taken::Got(o, next) => {
+            let v = arith::mul(old(o, &*vars), o.a);
+            put(o, next, v, cells, vars)
+        }
+    }
+}
+
+pub fn increment(t: Taken, cells: &mut [u32; 7], vars: &mut [u32; 64]) -> u8
+    requires { ⌜ Named t × Cells (now cells) ⌝ }
+    ensures { λ q. ⌜ ((n : ℕ) → Sets q (answers t (λ o. rule Op.Increment o n)) (now (cells .entry)) (now (cells .exit)) (now (vars .entry)) (now (vars .exit))) ⌝ }
+{
+    match t {
+        Taken::Refused(n) => n,
+        Taken::Got(o, next) => {
+            let v = arith::inc(old(o, &*vars));
+            put(o, next, v, cells, vars)
+        }
+    }
+}
+
+pub fn decrement(t: Taken, cells: &mut [u32; 7], vars: &mut [u32; 64]) -> u8
+    requires { ⌜ Named t × Cells (now cells) ⌝ }
+    ensures { λ q. ⌜ ((n : ℕ) → Sets q (answers t (λ o. rule Op.Decrement o n)) (now (cells .entry)) (now (cells .exit)) (now (vars .entry)) (now (vars .exit))) ⌝ }
+{
+    match t {
+        Taken::Refused(n) => n,
+        Taken::Got(o, next) => {
+            let v = arith::dec(old(o, &*vars));
+            put(o, next, v, cells, vars)
+        }
+    }
+}
+
+// A division's answer: into Vd, or 26.
+fn put_unless_zero(
+    o: Operands,
+    next: WordIndex,
+    x: Division,
+    cells: &mut [u32; 7],
+    vars: &mut [u32; 64],
+) -> u8
+    requires { ⌜ (o .dest .0 < 64) × Cells (now cells) ⌝ }
+    ensures { λ q.
+        ⌜ ((v : ℕ) → x ≡ unlessZero (o .a) v
+        → Sets q (does (λ e. refuse 26 (eqb (o .a) 0) (gives v o e)) next) (now (cells .entry)) (now (cells .exit)) (now (vars .entry)) (now (vars .exit))) ⌝ }
+{
+    match x {
+        Division::ByZero => 26,
+        Division::Gives(v) => put(o, next, v, cells, vars),
+    }
+}
+
+pub fn divide(t: Taken, cells: &mut [u32; 7], vars: &mut [u32; 64]) -> u8
+    requires { ⌜ Named t × Cells (now cells) ⌝ }
+    ensures { λ q. ⌜ ((n : ℕ) → Sets q (answers t (λ o. rule Op.Divide o n)) (now (cells .entry)) (now (cells .exit)) (now (vars .entry)) (now (vars .exit))) ⌝ }
+{
+    match t {
+        Taken::Refused(n) => n,
+        Taken::Got(o, next) => {
+            let x = arith::quotient(old(o, &*vars), o.a);
+            put_unless_zero(o, next, x, cells, vars)
+        }
+    }
+}
+
+pub fn remainder(t: Taken, cells: &mut [u32; 7], vars: &mut [u32; 64]) -> u8
+    requires { ⌜ Named t × Cells (now cells) ⌝ }
+    ensures { λ q. ⌜ ((n : ℕ) → Sets q (answers t (λ o. rule Op.Remainder o n)) (now (cells .entry)) (now (cells .exit)) (now (vars .entry)) (now (vars .exit))) ⌝ }
+{
+    match t {
+        Taken::Refused(n) => n,
+        Taken::Got(o, next) => {
+            let x = arith::remainder(old(o, &*vars), o.a);
+            put_unless_zero(o, next, x, cells, vars)
+        }
+    }
 }
 
 // Vd's value is kept first, the other second.
-pub fn compare(o: Operands, r: Registers, vars: &[u32; 64]) -> Stepped
-    requires { ⌜ o .dest .0 < 64 ⌝ }
-    ensures { λ q. ⌜ ((n : ℕ) → Sets q (rule Op.Compare o n) r (now (vars .entry)) (now (vars .entry))) ⌝ }
+pub fn compare(t: Taken, cells: &mut [u32; 7], vars: &[u32; 64]) -> u8
+    requires { ⌜ Named t × Cells (now cells) ⌝ }
+    ensures { λ q. ⌜ ((n : ℕ) → Sets q (answers t (λ o. rule Op.Compare o n)) (now (cells .entry)) (now (cells .exit)) (now (vars .entry)) (now (vars .entry))) ⌝ }
 {
-    let mut n = r;
-    n.first = old(o, vars);
-    n.second = o.a;
-    Stepped::Done(n)
+    match t {
+        Taken::Refused(n) => n,
+        Taken::Got(o, next) => {
+            keep_compared(cells, old(o, vars), o.a);
+            go_to(cells, next)
+        }
+    }
 }

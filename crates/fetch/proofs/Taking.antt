@@ -11,9 +11,8 @@ use Rattle.numbers.specs.declared.place.VarNo.{VarNo}
 use Rattle.numbers.specs.Number.{signed16, low32}
 use Rattle.rules.specs.declared.opcode.Operands.{Operands}
 use Rattle.rules.specs.Operands.{Piece, word, from, at, widths, highest, following, values, destination, gathered}
-use Rattle.fetch.specs.declared.source.Taken.{Taken}
-use Rattle.fetch.specs.declared.source.Taken.the-variants.{Cut, NoVariable, Got}
-use Rattle.fetch.specs.Stages.{ontoOf, takenOf}
+use Rattle.fetch.specs.declared.source.Taken.the-variants.{Refused, Got}
+use Rattle.fetch.specs.Stages.{Named, ontoOf, takenOf}
 
 -- ---- n variables from v on, where j are passed already
 
@@ -53,63 +52,47 @@ all-words zero = refl
 all-words (suc n) = omega (arith, all-words n)
 
 -- ---- a destination d, above 63 or not
-pub above : (a d : ℕ) → 63 < d → NoVariable ≡ ontoOf a d
-unfolding ontoOf
-above a d h = rw (lt-ltb _ _ h)
+module _ (a d next : ℕ) where
+  pub above : 63 < d → Refused 23 ≡ ontoOf a d next
+  unfolding ontoOf
+  above h = rw (lt-ltb _ _ h)
 
-pub below : (a d : ℕ) (v : VarNo) → v .0 ≡ d → d ≤ 63 → Got (record { a = a; b = 0; c = 0; d = 0; e = 0; dest = v }) ≡ ontoOf a d
-unfolding ontoOf
-below a d v e h = rw (le-ltb _ _ h, ← e)
+  pub below : (v : VarNo) {n : ℕ} → v .0 ≡ d → n ≡ next → d ≤ 63 → Got (record { a = a; b = 0; c = 0; d = 0; e = 0; dest = v }) (record { 0 = n }) ≡ ontoOf a d next
+  unfolding ontoOf
+  below v e n h = rw (le-ltb _ _ h, ← e, n)
 
 -- ---- pieces
 module _ (ps : List Piece) (w : List ℕ) (pc : ℕ) (vs : List ℕ) where
-  pub short : length w < pc + (1 + widths ps) → Cut ≡ takenOf ps w pc vs
+  pub short : length w < pc + (1 + widths ps) → Refused 22 ≡ takenOf ps w pc vs
   unfolding takenOf
   short l = rw (lt-ltb _ _ l)
 
-  abbrev Fits : Taken → Type 0
-  Fits Cut = Unit {0}
-  Fits NoVariable = Unit {0}
-  Fits (Got o) = pc + (1 + widths ps) ≤ length w
-
-  fits : Fits (takenOf ps w pc vs)
-  unfolding takenOf
-  fits = go _ (ltb (length w) (pc + (1 + widths ps))) (ltb 63 (highest ps w pc 1)) (λ p. ltb-false _ _ p)
-    where
-      go : (o : Operands) (b d : Bool) → (b ≡ false → pc + (1 + widths ps) ≤ length w) → Fits (cond b Cut (cond d NoVariable (Got o)))
-      go o true d h = tt
-      go o false true h = tt
-      go o false false h = h refl
-
-  -- operands that were taken stand inside the list
-  pub inside : {o : Operands} → takenOf ps w pc vs ≡ Got o → pc + (1 + widths ps) ≤ length w
-  inside h = rw h at fits
-
   module _ (l : pc + (1 + widths ps) ≤ length w) where
-    pub over : 63 < highest ps w pc 1 → NoVariable ≡ takenOf ps w pc vs
+    pub over : 63 < highest ps w pc 1 → Refused 23 ≡ takenOf ps w pc vs
     unfolding takenOf
     over h = rw (le-ltb _ _ l, lt-ltb _ _ h)
 
-    pub fine : {o : Operands} → highest ps w pc 1 ≤ 63 → o ≡ gathered (values ps w pc 1 vs) (destination ps w pc 1) → Got o ≡ takenOf ps w pc vs
+    pub fine : {o : Operands} {next : ℕ} → highest ps w pc 1 ≤ 63 → o ≡ gathered (values ps w pc 1 vs) (destination ps w pc 1) → next ≡ pc + (1 + widths ps)
+        → Got o (record { 0 = next }) ≡ takenOf ps w pc vs
     unfolding takenOf
-    fine h e = rw (le-ltb _ _ l, le-ltb _ _ h, e)
+    fine h e n = rw (le-ltb _ _ l, le-ltb _ _ h, e, n)
 
     -- at most three values
-    pub three : {a b c : ℕ} → highest ps w pc 1 ≤ 63 → let v = values ps w pc 1 vs in (a ≡ at v 0) × (b ≡ at v 1) × (c ≡ at v 2)
-        → gathered (at v 0 ∷ at v 1 ∷ at v 2 ∷ []) 0 ≡ gathered v (destination ps w pc 1)
-        → Got (record { a = a; b = b; c = c; d = 0; e = 0; dest = record { 0 = 0 } }) ≡ takenOf ps w pc vs
-    three h q r = fine h ((λ i. record { a = q .0 i; b = q .1 i; c = q .2 i; d = 0; e = 0; dest = record { 0 = 0 } }) ∙ r)
+    pub three : {a b c next : ℕ} → highest ps w pc 1 ≤ 63 → let v = values ps w pc 1 vs in (a ≡ at v 0) × (b ≡ at v 1) × (c ≡ at v 2)
+        → gathered (at v 0 ∷ at v 1 ∷ at v 2 ∷ []) 0 ≡ gathered v (destination ps w pc 1) → next ≡ pc + (1 + widths ps)
+        → Got (record { a = a; b = b; c = c; d = 0; e = 0; dest = record { 0 = 0 } }) (record { 0 = next }) ≡ takenOf ps w pc vs
+    three h q r n = fine h ((λ i. record { a = q .0 i; b = q .1 i; c = q .2 i; d = 0; e = 0; dest = record { 0 = 0 } }) ∙ r) n
 
     -- at most one value and a destination v, while no other variable is above 63
     pub onto : {a : ℕ} (v : ℕ) → v ≤ highest ps w pc 1 → highest ps w pc 1 ≤ max v 63 → let x = at (values ps w pc 1 vs) 0 in a ≡ x
-        → gathered (x ∷ []) v ≡ gathered (values ps w pc 1 vs) (destination ps w pc 1) → ontoOf a v ≡ takenOf ps w pc vs
+        → gathered (x ∷ []) v ≡ gathered (values ps w pc 1 vs) (destination ps w pc 1) → ontoOf a v (pc + (1 + widths ps)) ≡ takenOf ps w pc vs
     unfolding ontoOf
     onto {a} v low high q r = go (ltb 63 v) refl
       where
-        go : (b : Bool) → ltb 63 v ≡ b → cond b NoVariable (Got (gathered (a ∷ []) v)) ≡ takenOf ps w pc vs
+        go : (b : Bool) → ltb 63 v ≡ b → cond b (Refused 23) (Got (gathered (a ∷ []) v) (record { 0 = pc + (1 + widths ps) })) ≡ takenOf ps w pc vs
         go true p = over (omega (arith, ltb-true 63 v p))
-        go false p = fine (omega (arith, ltb-false 63 v p)) (ap (λ (a : ℕ). gathered (a ∷ []) v) q ∙ r)
+        go false p = fine (omega (arith, ltb-false 63 v p)) (ap (λ (a : ℕ). gathered (a ∷ []) v) q ∙ r) refl
 
-pub from-variable : (n : ℕ) (w : List ℕ) (pc : ℕ) (vs : List ℕ) (v : ℕ) → v ≡ at w (pc + 1) → pc + 2 ≤ length w → v ≤ 63 → v + n ≤ 64
-    → Got (gathered (following n v 0 vs) 0) ≡ takenOf (from n ∷ []) w pc vs
-from-variable n w pc vs v e l h k = fine (from n ∷ []) w pc vs l (omega arith) (rw (e, append-nil))
+pub from-variable : (n : ℕ) (w : List ℕ) (pc : ℕ) (vs : List ℕ) (v : ℕ) {o : Operands} {next : ℕ} → v ≡ at w (pc + 1) → pc + 2 ≤ length w → v ≤ 63 → v + n ≤ 64
+    → o ≡ gathered (following n v 0 vs) 0 → next ≡ pc + 2 → Got o (record { 0 = next }) ≡ takenOf (from n ∷ []) w pc vs
+from-variable n w pc vs v e l h k g q = fine (from n ∷ []) w pc vs l (omega arith) (g ∙ rw (e, append-nil)) q

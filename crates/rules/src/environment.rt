@@ -6,7 +6,7 @@ use raster::dots::Dot;
 use raster::frame::Bounds;
 use raster::frame::Window;
 ghost use mathlib.Core.Path.{_≡_};
-ghost use Rattle.rules.specs.Environment.{stateOf, byteOf};
+ghost use Rattle.rules.specs.Environment.{stateOf};
 
 // What opcodes change beside the two arrays. The two values last compared are 32 bits each, the depth counts the stacked
 // returns, and the state is 0 running, 1 ended, 20 to 29 stopped with that number.
@@ -43,15 +43,4 @@ pub fn state_of(byte: u8) -> State
         return State::Ended;
     }
     State::Stopped(Verdict { number: byte })
-}
-
-// The byte of a state.
-pub fn byte_of(s: State) -> u8
-    ensures { λ r. ⌜ r ≡ byteOf s ⌝ }
-{
-    match s {
-        State::Running => 0,
-        State::Ended => 1,
-        State::Stopped(v) => v.number,
-    }
 }

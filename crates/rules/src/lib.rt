@@ -1,5 +1,4 @@
-// Document 01 as types and one decision: what a call is given, what comes back, and which opcode a word is.
+// Document 01 as types: what a call is given, what comes back, and what an opcode is.
 pub mod answer;
-pub mod decode;
 pub mod environment;
 pub mod opcode;

@@ -1,4 +1,5 @@
 pub mod Doors
 pub mod Turning
 pub mod Stepping
+pub mod Lending
 pub mod Sides

@@ -1,89 +1,120 @@
 -- What a step may rely on, and what it leaves.
-use Prim.Native.Nat.{ℕ, _≤_}
+use Prim.Native.Nat.{ℕ, zero, suc, _+_, _<_, _≤_}
 use mathlib.Core.Path.{_≡_, refl, sym, ap, _∙_, subst}
 use mathlib.Core.Bool.{Bool, true, false, cond}
 use mathlib.Core.List.{List}
 use native.Mathlib.Omega.{arith}
 use borrow.Author.Tests.{leb-true, eq-eqb, ne-eqb}
 use lib.ListN.{length}
-use lib.Dec.{eqb}
+use lib.Dec.{ltb, eqb}
+use lib.IntN.{ℤ}
 use Rattle.numbers.specs.declared.place.WordIndex.{WordIndex}
 use Rattle.raster.specs.declared.frame.Bounds.{Bounds}
 use Rattle.player.specs.declared.Verdict.{Verdict}
 use Rattle.player.specs.declared.State.the-variants.{Running, Ended, Stopped}
 use Rattle.player.specs.Player.{verdict, Outcome, done, refused}
-use Rattle.player.specs.Run.{Answer, answer}
+use Rattle.player.specs.Run.{answer}
 use Rattle.player.proofs.Runs.{Leaves}
-use Rattle.rules.specs.declared.environment.Registers.{Registers}
-use Rattle.rules.specs.Environment.{Env, view, goto, turned, stateOf, firsts}
+use Rattle.rules.specs.declared.opcode.Op.{Op}
+use Rattle.rules.specs.declared.opcode.Operands.{Operands}
+use Rattle.rules.specs.declared.opcode.Source.{Source}
+use Rattle.rules.specs.declared.opcode.Form.the-variants.{Unknown, Known}
+use Rattle.rules.specs.Table.{formOf}
+use Rattle.rules.specs.Operands.{at, pieces, sizeOf, highest, operands}
+use Rattle.rules.specs.Environment.{Env, turned, stateOf, firsts}
+use Rattle.rules.specs.Opcodes.{rule}
 use Rattle.rules.specs.Step.{step, afgis}
 use Rattle.rules.specs.Door.{between, fits}
 use Rattle.rules.proofs.StackLaws.{length-firsts}
 use Rattle.rules.proofs.Ranges.{one, Fits, joined, parted}
 use Rattle.rules.proofs.Kept.{step-keeps}
 use Rattle.rules.proofs.DoorLaws.{coord, fitting}
-use Rattle.act.specs.declared.stepped.Stepped.{Stepped}
-use Rattle.act.specs.declared.stepped.Stepped.the-variants.{Refused, Done}
-use Rattle.act.specs.Shown.{Shown, went, stayed, shown, seen}
-use Rattle.act.specs.Contracts.{Drawable, Stacked}
-use Rattle.run.specs.declared.turns.Ran.{Ran}
-use Rattle.run.specs.Turns.{Ready, stoppedBy, numberOf, ran}
+use Rattle.fetch.specs.declared.source.Taken.{Taken}
+use Rattle.fetch.specs.declared.source.Taken.the-variants.{Refused, Got}
+use Rattle.fetch.specs.Stages.{Reaches, takenOf}
+use Rattle.fetch.proofs.Steps as Fetched
+use Rattle.act.specs.Held.{look}
+use Rattle.act.specs.Shown.{Shown, went, stayed, shown, seen, does, answers}
+use Rattle.act.specs.Contracts.{Drawable, Stacked, Turns, Sets, Stacks, Moves, Paints, Draws}
+use Rattle.run.specs.Turns.{Ready, Steps, left}
 
--- ---- what act asks
-module _ (b : Bounds) (r : Registers) (vs st s : List ℕ) (h : Ready b r vs st s) where
-  in-range : Fits b (view b r vs st)
-  in-range = parted (view b r vs st) (h .ranges)
+-- a step is taken at pc: all is ready, and the list has a word there
+pub record Here (w : List ℕ) (b : Bounds) (cs : List ℕ) (ps : List ℤ) (vs st s : List ℕ) (pc : ℕ) : Type 0 where
+  pub ready : Ready w b cs ps vs st s
+  pub counter : pc ≡ at cs 0
+  pub inside : pc < length w
 
-  pub drawable : Drawable b r s
-  drawable =
-      record {
-        fitting = fitting (view b r vs st) s (h .size) (h .ranges) (h .area);
-        here = (coord (r .position .x) (in-range .1), coord (r .position .y) (in-range .2));
-      }
+module _ {w : List ℕ} {b : Bounds} {cs : List ℕ} {ps : List ℤ} {vs st s : List ℕ} where
+  refuses : Ready w b cs ps vs st s → {n : ℕ} → step w (look b cs ps vs st) ≡ refused (verdict (suc n)) → Steps (suc n) w b cs ps vs st s cs ps vs st s
+  refuses r d = record { cells = r .cells; points = r .points; full = r .full; tells = sym (ap (λ (x : Outcome Env). shown x (look b cs ps vs st) s) d) }
 
-  pub stacked : Stacked r st
-  stacked = record { deep = omega (arith, leb-true (length (firsts (r .depth) st)) 16 (in-range .6), length-firsts (r .depth) st); full = h .full }
+  pub step-20 : Ready w b cs ps vs st s → {pc : ℕ} → pc ≡ at cs 0 → length w ≤ pc → Steps 20 w b cs ps vs st s cs ps vs st s
+  step-20 r p l = refuses r (Fetched.step-20 w (look b cs ps vs st) (rw (← p) l))
 
--- ---- a refusal leaves the counter where it was: act has the counter of the next opcode
-rewind : ℕ → Shown → Shown
-rewind n (went e s) = went e s
-rewind n (stayed v e s) = stayed v (goto n e) s
+  module _ {pc : ℕ} (h : Here w b cs ps vs st s pc) where
+    -- ---- what fetch and act ask
+    pub reaches : Reaches w pc 0
+    reaches = (omega (arith, h .inside), h .ready .few)
 
-abbrev at-next : Registers → WordIndex → Registers
-at-next r i =
-    record {
-      position = r .position;
-      window = r .window;
-      mode = r .mode;
-      first = r .first;
-      second = r .second;
-      counter = i;
-      depth = r .depth;
-      colour = r .colour;
-      state = r .state;
-    }
+    in-range : Fits b (look b cs ps vs st)
+    in-range = parted (look b cs ps vs st) (h .ready .ranges)
 
-module _ (b : Bounds) (r : Registers) (i : WordIndex) (vs st s : List ℕ) where
-  seen-back : (q : Stepped) → rewind (r .counter .0) (seen q b (at-next r i) vs st s) ≡ seen q b r vs st s
-  unfolding rewind
-  seen-back (Refused v) = refl
-  seen-back (Done n) = refl
+    pub drawable : Drawable b cs ps s
+    drawable =
+        record {
+          cells = h .ready .cells;
+          points = h .ready .points;
+          fitting = fitting (look b cs ps vs st) s (h .ready .size) (h .ready .ranges) (h .ready .area);
+          here = (coord (look b cs ps vs st .position .x) (in-range .1), coord (look b cs ps vs st .position .y) (in-range .2));
+        }
 
-  shown-back : (o : Outcome Env) → rewind (r .counter .0) (shown o (view b (at-next r i) vs st) s) ≡ shown o (view b r vs st) s
-  unfolding rewind
-  shown-back (done e p) = refl
-  shown-back (refused v) = refl
+    pub stacked : Stacked cs st
+    stacked =
+        record {
+          cells = h .ready .cells;
+          deep = omega (arith, leb-true (length (firsts (at cs 3) st)) 16 (in-range .6), length-firsts (at cs 3) st);
+          full = h .ready .full;
+        }
 
--- what act did from there is what the rules say of the step
-pub acts : (w : List ℕ) (b : Bounds) (r : Registers) (i : WordIndex) (vs st s vs' st' s' : List ℕ) (q : Stepped) (o : Outcome Env)
-    → seen q b (at-next r i) vs' st' s' ≡ shown o (view b (at-next r i) vs st) s → step w (view b r vs st) ≡ o
-    → seen q b r vs' st' s' ≡ shown (step w (view b r vs st)) (view b r vs st) s
-acts w b r i vs st s vs' st' s' q o h d =
-    sym (seen-back b r i vs' st' s' q) ∙ ap (rewind (r .counter .0)) h ∙ shown-back b r i vs st s o ∙ ap (λ (x : Outcome Env). shown x (view b r vs st) s) (sym d)
+    -- ---- what the opcode word says
+    inside : at cs 0 < length w
+    inside = rw (h .counter) at (h .inside)
 
--- a refusal shows itself, and all as it was
-pub refuses : (w : List ℕ) (e : Env) (s : List ℕ) (v : Verdict) → step w e ≡ refused v → stayed v e s ≡ shown (step w e) e s
-refuses w e s v d = sym (ap (λ (x : Outcome Env). shown x e s) d)
+    pub step-21 : formOf (at w pc) ≡ Unknown → Steps 21 w b cs ps vs st s cs ps vs st s
+    step-21 k = refuses (h .ready) (Fetched.step-21 w (look b cs ps vs st) inside (rw (h .counter) at k))
+
+    module _ {op : Op} {source : Source} (k : formOf (at w pc) ≡ Known op source) {t : Taken} (g : t ≡ takenOf (pieces source) w pc vs) where
+      -- what an op promises of what was taken is what the rules say of the step
+      told-is : answers t (λ o. rule op o (length w)) (look b cs ps vs st) s ≡ shown (step w (look b cs ps vs st)) (look b cs ps vs st) s
+      unfolding answers does takenOf
+      told-is =
+          rw (g, h .counter, Fetched.step-taken w (look b cs ps vs st) inside {op = op} {s = source} (rw (h .counter) at k))
+          (go (operands source w (at cs 0) vs) _ (ltb (length w) (at cs 0 + sizeOf source)) (ltb 63 (highest (pieces source) w (at cs 0) 1)))
+        where
+          go : (o : Operands) (next : WordIndex) (x y : Bool) → let t = cond x (Refused 22) (cond y (Refused 23) (Got o next)) in
+              answers t (λ o. rule op o (length w)) (look b cs ps vs st) s ≡ shown (Fetched.resolved w (look b cs ps vs st) inside op t) (look b cs ps vs st) s
+          go o next true y = refl
+          go o next false true = refl
+          go o next false false = refl
+
+      module _ {q : ℕ} {cs' : List ℕ} where
+        pub step-turns : Turns q (answers t (λ o. rule op o (length w))) cs cs' → Steps q w b cs ps vs st s cs' ps vs st s
+        step-turns r = record { cells = r .cells; points = h .ready .points; full = h .ready .full; tells = r .tells b ps vs st s ∙ told-is }
+
+        pub step-sets : {vs' : List ℕ} → Sets q (answers t (λ o. rule op o (length w))) cs cs' vs vs' → Steps q w b cs ps vs st s cs' ps vs' st s
+        step-sets r = record { cells = r .cells; points = h .ready .points; full = h .ready .full; tells = r .tells b ps st s ∙ told-is }
+
+        pub step-stacks : {st' : List ℕ} → Stacks q (answers t (λ o. rule op o (length w))) cs cs' st st' → Steps q w b cs ps vs st s cs' ps vs st' s
+        step-stacks r = record { cells = r .cells; points = h .ready .points; full = r .deep; tells = r .tells b ps vs s ∙ told-is }
+
+        pub step-moves : {ps' : List ℤ} → Moves q (answers t (λ o. rule op o (length w))) cs cs' ps ps' → Steps q w b cs ps vs st s cs' ps' vs st s
+        step-moves r = record { cells = r .cells; points = r .points; full = h .ready .full; tells = r .tells b vs st s ∙ told-is }
+
+        pub step-paints : {s' : List ℕ} → Paints q (answers t (λ o. rule op o (length w))) b cs cs' ps s s' → Steps q w b cs ps vs st s cs' ps vs st s'
+        step-paints r = record { cells = r .cells; points = h .ready .points; full = h .ready .full; tells = r .tells vs st ∙ told-is }
+
+        pub step-draws : {ps' : List ℤ} {s' : List ℕ} → Draws q (answers t (λ o. rule op o (length w))) b cs cs' ps ps' s s' → Steps q w b cs ps vs st s cs' ps' vs st s'
+        step-draws r = record { cells = r .cells; points = r .points; full = h .ready .full; tells = r .tells vs st ∙ told-is }
 
 -- ---- what is left is in range
 module _ (w : List ℕ) (few : length w ≤ 65536) (e : Env) (s : List ℕ) (h : fits e ≡ true) where
@@ -100,8 +131,16 @@ module _ (w : List ℕ) (few : length w ≤ 65536) (e : Env) (s : List ℕ) (h :
   stays-told (done e' p) l v e₁ s₁ q = let z : _≡_ {A = ℕ} 0 1 = cc in absurd (omega (arith, z))
   stays-told (refused u) l v e₁ s₁ q = let r : u ≡ v = cc in subst (λ (x : Verdict). between 20 29 (x .number) ≡ true) r (l .8)
 
-  pub told : (v : Verdict) (e₁ : Env) (s₁ : List ℕ) → stayed v e₁ s₁ ≡ shown (step w e) e s → between 20 29 (v .number) ≡ true
-  told v e₁ s₁ q = stays-told (step w e) (step-keeps w few (e .bounds) e (parted e h)) v e₁ s₁ q
+  pub told-refusal : (v : Verdict) (e₁ : Env) (s₁ : List ℕ) → stayed v e₁ s₁ ≡ shown (step w e) e s → between 20 29 (v .number) ≡ true
+  told-refusal v e₁ s₁ q = stays-told (step w e) (step-keeps w few (e .bounds) e (parted e h)) v e₁ s₁ q
+
+-- ---- the number that came back
+pub carried-out : {q : ℕ} → q ≡ 0 → (e : Env) (s : List ℕ) → went e s ≡ seen q e s
+carried-out z e s = rw z
+
+pub not-carried-out : (q : ℕ) → (q ≡ 0 → ⊥) → (e : Env) (s : List ℕ) → stayed (verdict q) e s ≡ seen q e s
+not-carried-out zero n e s = absurd (n refl)
+not-carried-out (suc q) n e s = refl
 
 -- ---- the state's byte
 pub running : (n : ℕ) → n ≡ 0 → stateOf n ≡ Running
@@ -116,18 +155,13 @@ not-running n h q = at-one (eqb n 1) (rw (ne-eqb n 0 h) at q)
     at-one true p = let z : _≡_ {A = ℕ} 0 1 = cc in omega (arith, z)
     at-one false p = let z : _≡_ {A = ℕ} 0 1 = cc in omega (arith, z)
 
-stopped-state : (v : Verdict) → between 20 29 (v .number) ≡ true → stateOf (v .number) ≡ Stopped v
+stopped-state : (n : ℕ) → between 20 29 n ≡ true → stateOf n ≡ Stopped (verdict n)
 unfolding stateOf
-stopped-state v h =
-    let k = leb-true 20 (v .number) (one _ _ h) in
-    rw (ne-eqb (v .number) 0 (λ z. omega (arith, z, k)), ne-eqb (v .number) 1 (λ z. omega (arith, z, k)))
+stopped-state n h =
+    let k = leb-true 20 n (one _ _ h) in
+    rw (ne-eqb n 0 (λ z. omega (arith, z, k)), ne-eqb n 1 (λ z. omega (arith, z, k)))
 
 -- stopped with the refusal's number, and that is the answer
-pub stopped-ran : (b : Bounds) (r : Registers) (v : Verdict) (vs st s : List ℕ) (k : ℕ) → between 20 29 (v .number) ≡ true
-    → ran b (record { registers = stoppedBy r v; steps = k }) vs st s ≡ answer v (turned (Stopped v) (view b r vs st)) s k
-stopped-ran b r v vs st s k h = rw (stopped-state v h)
-
--- a number that is the state's makes the answer
-pub answers : (b : Bounds) (q : Ran) (vs st s : List ℕ) (n : ℕ) {R : Answer Env} → n ≡ numberOf (stateOf (q .registers .state)) → ran b q vs st s ≡ R
-    → answer (verdict n) (view b (q .registers) vs st) s (q .steps) ≡ R
-answers b q vs st s n h k = rw h k
+pub stopped-left : (e : Env) {e' : Env} (q : ℕ) → e' ≡ turned (stateOf q) e → between 20 29 q ≡ true → (s : List ℕ) (k : ℕ)
+    → left e' s k ≡ answer (verdict q) (turned (Stopped (verdict q)) e) s k
+stopped-left e q p h s k = rw (p, stopped-state q h)

@@ -1,6 +1,9 @@
 // The whole call: refused at the door with nothing changed, or run.
 use crate::door::door;
 use crate::turns::turns;
+use act::registers::cells_of;
+use act::registers::gathered;
+use act::registers::points_of;
 use player::State;
 use rules::answer::Answer;
 use rules::environment::Env;
@@ -35,8 +38,19 @@ pub fn run(list: &[u16], screen: &mut [u8], env: Env, budget: u32) -> Answer
             steps: 0,
         };
     }
-    let q = turns(list, b, r, &mut vars, &mut stack, screen, budget);
-    let registers = q.registers;
+    let mut cells = cells_of(r);
+    let mut points = points_of(r);
+    let steps = turns(
+        list,
+        b,
+        &mut cells,
+        &mut points,
+        &mut vars,
+        &mut stack,
+        screen,
+        budget,
+    );
+    let registers = gathered(&cells, &points);
     Answer {
         number: number_of(state_of(registers.state)),
         env: Env {
@@ -45,6 +59,6 @@ pub fn run(list: &[u16], screen: &mut [u8], env: Env, budget: u32) -> Answer
             variables: vars,
             stack,
         },
-        steps: q.steps,
+        steps,
     }
 }

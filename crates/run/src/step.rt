@@ -1,36 +1,91 @@
 // One opcode: carried out, or refused with nothing changed.
-use act::act::act;
-use act::stepped::Stepped;
-use fetch::fetch::Fetched;
-use fetch::fetch::fetch;
+use act::flow;
+use act::painting;
+use act::pen;
+use act::registers::counter;
+use act::values;
+use fetch::source::from;
+use fetch::source::long;
+use fetch::source::long_var;
+use fetch::source::long_word;
+use fetch::source::plain;
+use fetch::source::var;
+use fetch::source::var_var;
+use fetch::source::word_long;
+use fetch::source::word_var;
+use fetch::source::word2_long;
 use raster::frame::Bounds;
-use rules::environment::Registers;
-ghost use mathlib.Core.Path.{_≡_};
-ghost use Prim.Native.Nat.{_≤_};
-ghost use lib.ListN.{length};
 ghost use Rattle.run.specs.Turns.{Ready, Steps};
 
+// One decision over the opcode word finds where the operands come from, and what is done with them.
 pub fn step(
     words: &[u16],
     b: Bounds,
-    r: Registers,
+    cells: &mut [u32; 7],
+    points: &mut [i32; 6],
     vars: &mut [u32; 64],
     stack: &mut [u32; 16],
     screen: &mut [u8],
-) -> Stepped
-    requires { ⌜ Ready b r (now vars) (now stack) (now screen) × (length (now words) ≤ 65536) ⌝ }
+) -> u8
+    requires { ⌜ Ready (now words) b (now cells) (now points) (now vars) (now stack) (now screen) ⌝ }
     ensures { λ q.
-        ⌜ Steps q (now (words .entry)) b r (now (vars .entry)) (now (stack .entry)) (now (screen .entry)) (now (vars .exit)) (now (stack .exit)) (now (screen .exit))
-        × (length (now (stack .exit)) ≡ 16) ⌝ }
+        ⌜ Steps q (now (words .entry)) b (now (cells .entry)) (now (points .entry)) (now (vars .entry)) (now (stack .entry)) (now (screen .entry))
+        (now (cells .exit)) (now (points .exit)) (now (vars .exit)) (now (stack .exit)) (now (screen .exit)) ⌝ }
 {
-    let pc = r.counter;
-    let t = fetch(words, pc, &*vars);
-    match t {
-        Fetched::Refused(v) => Stepped::Refused(v),
-        Fetched::Got(op, o, next) => {
-            let mut n = r;
-            n.counter = next;
-            act(op, o, words.len() as u32, b, n, vars, stack, screen)
-        }
+    let pc = counter(&*cells);
+    let at = pc.0 as usize;
+    if words.len() <= at {
+        return 20;
+    }
+    let count = words.len() as u32;
+    match words[at] {
+        0x0000 => flow::noop(plain(words, pc, 0), cells),
+        0x0001 => flow::end(plain(words, pc, 0), cells),
+        0x0002 => values::add(long_var(words, pc), cells, vars),
+        0x0003 => values::add(var_var(words, pc, &*vars), cells, vars),
+        0x0006 => values::and(long_var(words, pc), cells, vars),
+        0x0007 => values::and(var_var(words, pc, &*vars), cells, vars),
+        0x000E => flow::call(long(words, pc), count, cells, stack),
+        0x000F => flow::call(from(words, pc, &*vars, 1), count, cells, stack),
+        0x0016 => pen::clip_mode(plain(words, pc, 1), cells),
+        0x0017 => pen::clip_mode(from(words, pc, &*vars, 1), cells),
+        0x0018 => pen::clip_window(plain(words, pc, 4), cells, points),
+        0x0019 => pen::clip_window(from(words, pc, &*vars, 4), cells, points),
+        0x001F => pen::colour(long(words, pc), cells),
+        0x0020 => pen::colour(from(words, pc, &*vars, 1), cells),
+        0x0033 => values::compare(long_var(words, pc), cells, &*vars),
+        0x0034 => values::compare(var_var(words, pc, &*vars), cells, &*vars),
+        0x0042 => values::decrement(var(words, pc), cells, vars),
+        0x0045 => values::divide(var_var(words, pc, &*vars), cells, vars),
+        0x005D => values::increment(var(words, pc), cells, vars),
+        0x0065 => values::load(word_var(words, pc), cells, vars),
+        0x0066 => values::load(long_var(words, pc), cells, vars),
+        0x0071 => values::load(var_var(words, pc, &*vars), cells, vars),
+        0x0074 => painting::line(plain(words, pc, 5), b, cells, &*points, screen),
+        0x0075 => painting::line(from(words, pc, &*vars, 5), b, cells, &*points, screen),
+        0x007C => painting::line_to(plain(words, pc, 3), b, cells, points, screen),
+        0x007D => painting::line_to(from(words, pc, &*vars, 3), b, cells, points, screen),
+        0x007E => painting::line_by(plain(words, pc, 3), b, cells, points, screen),
+        0x007F => painting::line_by(from(words, pc, &*vars, 3), b, cells, points, screen),
+        0x0080 => values::multiply(var_var(words, pc, &*vars), cells, vars),
+        0x0081 => values::remainder(var_var(words, pc, &*vars), cells, vars),
+        0x0082 => pen::move_to(plain(words, pc, 2), cells, points),
+        0x0083 => pen::move_to(from(words, pc, &*vars, 2), cells, points),
+        0x0084 => pen::move_by(plain(words, pc, 2), cells, points),
+        0x0085 => pen::move_by(from(words, pc, &*vars, 2), cells, points),
+        0x0090 => values::or(long_var(words, pc), cells, vars),
+        0x0091 => values::or(var_var(words, pc, &*vars), cells, vars),
+        0x009E => painting::pixel(plain(words, pc, 2), b, cells, &*points, screen),
+        0x009F => painting::pixel(from(words, pc, &*vars, 2), b, cells, &*points, screen),
+        0x00B9 => flow::come_back(plain(words, pc, 0), cells, &*stack),
+        0x010A => flow::jump(word_long(words, pc), count, cells),
+        0x010C => flow::jump_by(plain(words, pc, 2), count, cells),
+        0x010E => flow::call_by(plain(words, pc, 1), count, cells, stack),
+        0x010F => flow::call_by(from(words, pc, &*vars, 1), count, cells, stack),
+        0x0150 => painting::pixel_colour(word2_long(words, pc), b, cells, &*points, screen),
+        0x0151 => painting::pixel_colour(from(words, pc, &*vars, 3), b, cells, &*points, screen),
+        0x0188 => painting::clear(long_word(words, pc), b, cells, &*points, screen),
+        0x0189 => painting::clear(from(words, pc, &*vars, 2), b, cells, &*points, screen),
+        _ => 21,
     }
 }

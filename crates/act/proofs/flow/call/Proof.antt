@@ -1,10 +1,19 @@
 -- `call`: the target is that of `word_at`.
 use borrow.Author.Needs.{needs}
+use Rattle.rules.specs.Opcodes.{absolute}
+use Rattle.act.proofs.CallLaws.{call-aimed}
+use Rattle.act.proofs.Handing.{passed-stacks, got-stacks}
 use Rattle.act.proofs.flow.call.Statement.{statement}
 use Rattle.act.proofs.flow.call.Tie as tie
 
 pub call-spec : {M : Type 1} → statement M
 call-spec =
     tie.close (tie.spec
-    (λ c κs. search needs) (λ c κs. search needs)
-    (λ c. rw (← c .before .before .word-at .ensures) (c .call-to .ensures)))
+    (λ c. search needs) (λ c. search needs) (λ c κs. search needs) (λ c κs. search needs)
+    (λ c. let p = c .before .before .before .pre in passed-stacks _ (c .before .t .given .1) (p .cells) (p .full))
+    (λ c.
+    let a = c .before .before .before in
+    let t = a .before .before in
+    let o = t .t2 .given .0 .0 in
+    got-stacks _ (t .t2 .given .1)
+    (call-aimed _ (λ e. absolute (o .a) (t .before .before .args .count)) (λ e. a .word-at .ensures) (c .call-to .ensures))))

@@ -1,15 +1,12 @@
--- `come_back`: the last return stacked stands right below the depth.
-use mathlib.Core.Path.{refl}
-use native.Mathlib.Omega.{arith}
+-- `come_back`: back, whatever was got.
 use borrow.Author.Needs.{needs}
-use Rattle.act.proofs.CallLaws.{back-29, back-at}
+use Rattle.act.proofs.Handing.{passed-stacks, got-stacks}
 use Rattle.act.proofs.flow.come_back.Statement.{statement}
 use Rattle.act.proofs.flow.come_back.Tie as tie
 
 pub come-back-spec : {M : Type 1} → statement M
 come-back-spec =
     tie.close (tie.spec
-    (λ c κs. search needs)
-    (λ c n. back-29 (c .before .before .before .args .o) n _ _ (c .before .if1 .taken) (c .refused .ensures))
-    (λ c. search needs) (λ c. search needs) (λ c. search needs) (λ c. search needs)
-    (λ c n b vs s. back-at (c .before .before .before .before .args .o) n _ _ (omega arith) b vs s refl))
+    (λ c. search needs) (λ c. search needs) (λ c κs. search needs)
+    (λ c n. let p = c .before .before .before .pre in passed-stacks _ (c .before .t .given .1) (p .cells) (p .full))
+    (λ c n. let g = c .before .before .enum-told .given in got-stacks _ (g .1) (c .back .ensures (g .0 .0) n (g .0 .1 .0))))

@@ -1,24 +1,36 @@
 -- `jump_to`: the condition is asked first, and the target only where it holds.
-use mathlib.Core.Path.{refl}
 use borrow.Author.Needs.{needs}
-use Rattle.act.proofs.JumpLaws.{jump-24, jump-no, jump-27, jump-at}
+use Rattle.act.proofs.JumpLaws.{jump-24, jump-27, jump-no, jump-at}
 use Rattle.act.proofs.flow.jump_to.Statement.{statement}
 use Rattle.act.proofs.flow.jump_to.Tie as tie
 
 pub jump-to-spec : {M : Type 1} → statement M
 jump-to-spec =
     tie.close (tie.spec
-    (λ c κs. search needs) (λ c. search needs) (λ c κs. search needs) (λ c. search needs) (λ c. search needs) (λ c. search needs)
-    (λ c κs. search needs) (λ c. search needs)
+    (λ c κs. search needs) (λ c κs. search needs) (λ c κs. search needs) (λ c. search needs) (λ c. search needs) (λ c κs. search needs)
+    (λ c. search needs) (λ c. search needs) (λ c. search needs) (λ c κs. search needs)
     (λ c.
-    let at = c .before .before .before in
-    jump-24 _ (at .before .args .t) (at .before .args .r) (at .condition-of .ensures) (c .before .enum-told .given .1) (c .refused .ensures))
+    let a = c .before .before in
+    let f = a .before .before .before in
+    let s = f .before .before in
+    jump-24 _ (s .args .t) (s .args .next) _ (f .first .ensures) (a .before .second .ensures) (a .condition-of .ensures) (c .enum-told .given .1) (s .pre))
     (λ c.
-    let at = c .before .before in
-    jump-no _ (at .before .args .t) (at .before .args .r) (at .condition-of .ensures) (c .enum-told2 .given .1))
+    let h = c .before .before in
+    let a = h .before .before in
+    let f = a .before .before .before in
+    jump-no _ (f .before .before .args .t) _ _ (f .first .ensures) (a .before .second .ensures) (a .condition-of .ensures) (h .enum-told2 .given .1)
+    (c .go-to .ensures))
     (λ c.
-    let at = c .before .before .before in
-    jump-27 _ _ _ (at .before .before .condition-of .ensures) (at .enum-told3 .given .1) (c .before .enum-told4 .given .1) (c .refused2 .ensures))
-    (λ c b vs st s.
-    let at = c .before .before .before in
-    jump-at _ _ _ (at .before .before .condition-of .ensures) (at .enum-told3 .given .1) (c .before .t .given .1) b vs st s refl))
+    let h = c .before .before in
+    let a = h .before .before in
+    let f = a .before .before .before in
+    let s = f .before .before in
+    jump-27 _ _ (s .args .next) _ (f .first .ensures) (a .before .second .ensures) (a .condition-of .ensures) (h .enum-told3 .given .1)
+    (c .enum-told4 .given .1) (s .pre))
+    (λ c.
+    let t = c .before .before .before in
+    let h = t .before .before in
+    let a = h .before .before in
+    let f = a .before .before .before in
+    jump-at _ _ (f .before .before .args .next) _ (f .first .ensures) (a .before .second .ensures) (a .condition-of .ensures) (h .enum-told3 .given .1)
+    (t .t .given .1) (c .go-to2 .ensures)))

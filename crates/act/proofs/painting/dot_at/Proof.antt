@@ -1,6 +1,8 @@
 -- `dot_at`: a point outside is 25.
+use mathlib.Core.Path.{refl}
+use denote.Ref.{now}
 use borrow.Author.Needs.{needs}
-use Rattle.act.proofs.Acting.{stays, goes}
+use Rattle.act.proofs.Acting.{stays, drawn}
 use Rattle.act.proofs.PointLaws.{near, told-outside, told-at}
 use Rattle.act.proofs.painting.dot_at.Statement.{statement}
 use Rattle.act.proofs.painting.dot_at.Tie as tie
@@ -8,17 +10,26 @@ use Rattle.act.proofs.painting.dot_at.Tie as tie
 pub dot-at-spec : {M : Type 1} → statement M
 dot-at-spec =
     tie.close (tie.spec
-    (λ c κs. search needs) (λ c. search needs) (λ c. search needs) (λ c κs. search needs)
-    (λ c vs st.
-    let out = told-outside _ _ (c .before .before .before .point-of .ensures) (c .before .enum-told .given .1) in
-    stays _ _ _ {n = 25} (rw out) (rw (c .refused .ensures)))
+    (λ c κs. search needs) (λ c. search needs) (λ c. search needs)
+    (λ c.
+    let at = c .before .before in
+    let out = told-outside _ _ (at .point-of .ensures) (c .enum-told .given .1) in
+    record { cells = at .before .before .pre .cells; tells = λ vs st. stays _ _ _ _ {n = 25} (rw out) refl })
     (λ c κs. search needs)
     (λ c κs.
-    let at = c .before .before .before in
-    let p = told-at _ _ (at .before .before .point-of .ensures) (at .p .given .1) in
-    (rw (c .frame .ensures) (at .before .before .before .before .pre .fitting), rw (p .1) (near _ (p .0))))
-    (λ c. search needs)
-    (λ c vs st.
-    let at = c .before .before .before .before .before .before in
-    let p = told-at _ _ (at .before .before .point-of .ensures) (at .p .given .1) in
-    goes _ _ _ (rw (p .0)) (rw (c .before .before .plot .ensures, c .before .before .before .frame .ensures, p .1))))
+    let w = c .before .before .before .before in
+    let at = w .before .before in
+    let p = told-at _ _ (at .point-of .ensures) (w .p .given .1) in
+    (rw (c .frame .ensures) (at .before .before .pre .fitting), rw (p .1) (near _ (p .0))))
+    (λ c κs. search needs) (λ c. search needs)
+    (λ c.
+    let d = c .before .before .before .before in
+    let w = d .before .before .before .before .before in
+    let p = told-at _ _ (w .before .before .point-of .ensures) (w .p .given .1) in
+    let g = c .go-to .ensures in
+    record {
+      cells = g .1 .full;
+      tells = λ vs st.
+          drawn _ _ _ _ (rw (p .0)) (g .0) (g .1 .shows _ (now (w .before .before .before .before .args .points)) vs st)
+          (rw (d .before .frame .ensures, p .1) at (d .plot .ensures));
+    }))

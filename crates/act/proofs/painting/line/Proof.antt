@@ -1,7 +1,10 @@
 -- `line`: a type other than 0 is 24, an end outside 25.
+use mathlib.Core.Path.{refl}
+use denote.Ref.{now}
 use borrow.Author.Needs.{needs}
 use borrow.Author.Tests.{lt-ltb, le-ltb}
-use Rattle.act.proofs.Acting.{stays, goes}
+use Rattle.act.proofs.Acting.{stays, drawn}
+use Rattle.act.proofs.Handing.{passed-paints, got-paints}
 use Rattle.act.proofs.PointLaws.{near, told-outside, told-at}
 use Rattle.act.proofs.painting.line.Statement.{statement}
 use Rattle.act.proofs.painting.line.Tie as tie
@@ -9,30 +12,50 @@ use Rattle.act.proofs.painting.line.Tie as tie
 pub line-spec : {M : Type 1} → statement M
 line-spec =
     tie.close (tie.spec
-    (λ c κs. search needs)
-    (λ c n vs st. stays _ _ _ {n = 24} (rw (lt-ltb _ _ (c .before .if1 .taken))) (rw (c .refused .ensures)))
-    (λ c κs. search needs) (λ c. search needs) (λ c. search needs) (λ c κs. search needs)
-    (λ c n vs st.
-    let first = c .before .before .before in
-    let out = told-outside _ _ (first .point-of .ensures) (c .before .enum-told .given .1) in
-    stays _ _ _ {n = 25} (rw (le-ltb _ _ (first .before .if1 .left), out)) (rw (c .refused2 .ensures)))
-    (λ c κs. search needs) (λ c. search needs) (λ c. search needs) (λ c κs. search needs)
-    (λ c n vs st.
-    let second = c .before .before .before in
+    (λ c. search needs) (λ c. search needs)
+    (λ c n.
+    let t = c .before .before .before in
+    got-paints _ (t .t2 .given .1)
+    (record { cells = t .before .before .before .pre .cells; tells = λ vs st. stays _ _ _ _ {n = 24} (rw (lt-ltb _ _ (c .if1 .taken))) refl }))
+    (λ c κs. search needs) (λ c. search needs) (λ c. search needs)
+    (λ c n.
+    let first = c .before .before in
+    let t = first .before .before .before .before in
+    let out = told-outside _ _ (first .point-of .ensures) (c .enum-told .given .1) in
+    got-paints _ (t .t2 .given .1)
+    (record { cells = t .before .before .before .pre .cells; tells = λ vs st. stays _ _ _ _ {n = 25} (rw (le-ltb _ _ (first .before .if1 .left), out)) refl }))
+    (λ c κs. search needs) (λ c. search needs) (λ c. search needs)
+    (λ c n.
+    let second = c .before .before in
     let first = second .before .before .before .before in
+    let t = first .before .before .before .before in
     let p = told-at _ _ (first .point-of .ensures) (second .before .before .p .given .1) in
-    let out = told-outside _ _ (second .point-of2 .ensures) (c .before .enum-told2 .given .1) in
-    stays _ _ _ {n = 25} (rw (le-ltb _ _ (first .before .if1 .left), p .0, out)) (rw (c .refused3 .ensures)))
+    let out = told-outside _ _ (second .point-of2 .ensures) (c .enum-told2 .given .1) in
+    got-paints _ (t .t2 .given .1)
+    (record { cells = t .before .before .before .pre .cells; tells = λ vs st. stays _ _ _ _ {n = 25} (rw (le-ltb _ _ (first .before .if1 .left), p .0, out)) refl }))
     (λ c κs.
-    let second = c .before .before .before .before in
+    let w = c .before .before .before in
+    let second = w .before .before in
     let first = second .before .before .before .before in
     let p = told-at _ _ (first .point-of .ensures) (second .before .before .p .given .1) in
-    let q = told-at _ _ (second .point-of2 .ensures) (c .before .before .q .given .1) in
-    (first .before .before .before .before .pre, (rw (p .1) (near _ (p .0)), rw (q .1) (near _ (q .0)))))
+    let q = told-at _ _ (second .point-of2 .ensures) (w .q .given .1) in
+    (first .before .before .before .before .before .before .before .pre, (rw (p .1) (near _ (p .0)), rw (q .1) (near _ (q .0)))))
+    (λ c κs. search needs)
+    (λ c n. passed-paints _ (c .before .t .given .1) (c .before .before .before .before .pre .cells))
     (λ c. search needs)
-    (λ c n vs st.
-    let second = c .before .before .before .before .before .before .before in
+    (λ c n.
+    let d = c .before .before .before .before in
+    let w = d .before .before .before .before in
+    let second = w .before .before in
     let first = second .before .before .before .before in
     let p = told-at _ _ (first .point-of .ensures) (second .before .before .p .given .1) in
-    let q = told-at _ _ (second .point-of2 .ensures) (c .before .before .before .before .before .q .given .1) in
-    goes _ _ _ (rw (le-ltb _ _ (first .before .if1 .left), p .0, q .0)) (rw (c .before .before .stroke .ensures, p .1, q .1))))
+    let q = told-at _ _ (second .point-of2 .ensures) (w .q .given .1) in
+    let g = c .go-to .ensures in
+    let t = first .before .before .before .before in
+    got-paints _ (t .t2 .given .1)
+    (record {
+      cells = g .1 .full;
+      tells = λ vs st.
+          drawn _ _ _ _ (rw (le-ltb _ _ (first .before .if1 .left), p .0, q .0)) (g .0)
+          (g .1 .shows _ (now (t .before .before .before .args .points)) vs st) (rw (p .1, q .1) at (d .stroke .ensures));
+    })))

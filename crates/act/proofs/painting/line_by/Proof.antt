@@ -1,31 +1,49 @@
 -- `line_by`: a type other than 0 is 24, an offset or the end outside 25.
+use mathlib.Core.Path.{refl}
+use mathlib.Core.List.{[]}
 use borrow.Author.Needs.{needs}
 use borrow.Author.Tests.{lt-ltb, le-ltb}
 use Rattle.rules.specs.Opcodes.{point, far}
 use Rattle.rules.proofs.Ranges.{neither}
-use Rattle.act.proofs.Acting.{stays, goes}
-use Rattle.act.proofs.PointLaws.{near, told-outside, told-at}
+use Rattle.act.proofs.Acting.{stays, past}
+use Rattle.act.proofs.Handing.{passed-draws, got-draws}
+use Rattle.act.proofs.PointLaws.{from, near, told-outside, told-at}
 use Rattle.act.proofs.painting.line_by.Statement.{statement}
 use Rattle.act.proofs.painting.line_by.Tie as tie
 
 pub line-by-spec : {M : Type 1} → statement M
 line-by-spec =
     tie.close (tie.spec
-    (λ c κs. search needs)
-    (λ c n vs st. stays _ _ _ {n = 24} (rw (lt-ltb _ _ (c .before .if1 .taken))) (rw (c .refused .ensures)))
-    (λ c κs. search needs) (λ c. search needs) (λ c. search needs) (λ c κs. search needs)
-    (λ c n vs st.
-    let at = c .before .before .before in
-    let out = told-outside _ _ (at .point-by .ensures) (c .before .enum-told .given .1) in
-    stays _ _ _ {n = 25} (rw (le-ltb _ _ (at .before .before .if1 .left), out)) (rw (c .refused2 .ensures)))
-    (λ c κs.
+    (λ c. search needs) (λ c. search needs)
+    (λ c n.
+    let t = c .before .before .before in
+    let pre = t .before .before .before .pre in
+    got-draws _ (t .t2 .given .1)
+    (record { cells = pre .cells; points = pre .points; tells = λ vs st. stays _ _ _ _ {n = 24} (rw (lt-ltb _ _ (c .if1 .taken))) refl }))
+    (λ c κs. search needs) (λ c κs. search needs) (λ c. search needs) (λ c. search needs)
+    (λ c n.
     let at = c .before .before in
-    let q = told-at _ _ (at .before .before .point-by .ensures) (at .q .given .1) in
-    let start = at .before .before .before .before .before .before .before in
-    let out = neither (far (point (start .args .o .b) (start .args .o .c))) _ (q .0) in
-    (start .pre, (start .pre .here, rw (q .1) (near _ (out .1)))))
+    let here = at .before in
+    let t = here .before .before .before .before .before in
+    let pre = t .before .before .before .pre in
+    let out = told-outside _ _ (from _ (here .position .ensures []) (at .point-by .ensures)) (c .enum-told .given .1) in
+    got-draws _ (t .t2 .given .1)
+    (record { cells = pre .cells; points = pre .points; tells = λ vs st. stays _ _ _ _ {n = 25} (rw (le-ltb _ _ (here .before .before .if1 .left), out)) refl }))
+    (λ c κs.
+    let w = c .before .before .before .before in
+    let at = w .before .before in
+    let t = at .before .before .before .before .before .before in
+    let q = told-at _ _ (at .point-by .ensures) (w .q .given .1) in
+    let o = t .t2 .given .0 .0 in
+    (t .before .before .before .pre, rw (q .1) (near _ (neither (far (point (o .b) (o .c))) _ (q .0) .1))))
+    (λ c n. let pre = c .before .before .before .before .pre in passed-draws _ (c .before .t .given .1) (pre .cells) (pre .points))
     (λ c. search needs)
-    (λ c n vs st.
-    let at = c .before .before .before .before .before in
-    let q = told-at _ _ (at .before .before .point-by .ensures) (at .q .given .1) in
-    goes _ _ _ (rw (le-ltb _ _ (at .before .before .before .before .if1 .left), q .0)) (rw (c .before .before .stroke .ensures, q .1))))
+    (λ c n.
+    let to = c .before .before in
+    let w = to .before .before .before .before .before in
+    let at = w .before .before in
+    let here = at .before in
+    let q = told-at _ _ (from _ (here .position .ensures []) (at .point-by .ensures)) (w .q .given .1) in
+    let d = to .draw-to .ensures in
+    got-draws _ (here .before .before .before .before .before .t2 .given .1)
+    (record { cells = d .cells; points = d .points; tells = λ vs st. past _ _ _ _ _ (rw (le-ltb _ _ (here .before .before .if1 .left), q .0)) (rw (q .1)) (d .tells vs st) })))

@@ -1,7 +1,9 @@
 -- `line_to`: a type other than 0 is 24, an end outside 25.
+use mathlib.Core.Path.{refl}
 use borrow.Author.Needs.{needs}
 use borrow.Author.Tests.{lt-ltb, le-ltb}
-use Rattle.act.proofs.Acting.{stays, goes}
+use Rattle.act.proofs.Acting.{stays, past}
+use Rattle.act.proofs.Handing.{passed-draws, got-draws}
 use Rattle.act.proofs.PointLaws.{near, told-outside, told-at}
 use Rattle.act.proofs.painting.line_to.Statement.{statement}
 use Rattle.act.proofs.painting.line_to.Tie as tie
@@ -9,20 +11,32 @@ use Rattle.act.proofs.painting.line_to.Tie as tie
 pub line-to-spec : {M : Type 1} → statement M
 line-to-spec =
     tie.close (tie.spec
-    (λ c κs. search needs)
-    (λ c n vs st. stays _ _ _ {n = 24} (rw (lt-ltb _ _ (c .before .if1 .taken))) (rw (c .refused .ensures)))
-    (λ c κs. search needs) (λ c. search needs) (λ c. search needs) (λ c κs. search needs)
-    (λ c n vs st.
-    let at = c .before .before .before in
-    let out = told-outside _ _ (at .point-of .ensures) (c .before .enum-told .given .1) in
-    stays _ _ _ {n = 25} (rw (le-ltb _ _ (at .before .if1 .left), out)) (rw (c .refused2 .ensures)))
+    (λ c. search needs) (λ c. search needs)
+    (λ c n.
+    let t = c .before .before .before in
+    let pre = t .before .before .before .pre in
+    got-draws _ (t .t2 .given .1)
+    (record { cells = pre .cells; points = pre .points; tells = λ vs st. stays _ _ _ _ {n = 24} (rw (lt-ltb _ _ (c .if1 .taken))) refl }))
+    (λ c κs. search needs) (λ c. search needs) (λ c. search needs)
+    (λ c n.
+    let at = c .before .before in
+    let t = at .before .before .before .before in
+    let pre = t .before .before .before .pre in
+    let out = told-outside _ _ (at .point-of .ensures) (c .enum-told .given .1) in
+    got-draws _ (t .t2 .given .1)
+    (record { cells = pre .cells; points = pre .points; tells = λ vs st. stays _ _ _ _ {n = 25} (rw (le-ltb _ _ (at .before .if1 .left), out)) refl }))
     (λ c κs.
-    let at = c .before .before .before in
-    let q = told-at _ _ (at .before .before .point-of .ensures) (at .q .given .1) in
-    let pre = at .before .before .before .before .before .before .pre in
-    (pre, (pre .here, rw (q .1) (near _ (q .0)))))
+    let w = c .before .before .before .before in
+    let at = w .before .before in
+    let q = told-at _ _ (at .point-of .ensures) (w .q .given .1) in
+    (at .before .before .before .before .before .before .before .pre, rw (q .1) (near _ (q .0))))
+    (λ c n. let pre = c .before .before .before .before .pre in passed-draws _ (c .before .t .given .1) (pre .cells) (pre .points))
     (λ c. search needs)
-    (λ c n vs st.
-    let at = c .before .before .before .before .before .before in
-    let q = told-at _ _ (at .before .before .point-of .ensures) (at .q .given .1) in
-    goes _ _ _ (rw (le-ltb _ _ (at .before .before .before .if1 .left), q .0)) (rw (c .before .before .stroke .ensures, q .1))))
+    (λ c n.
+    let to = c .before .before in
+    let w = to .before .before .before .before .before in
+    let at = w .before .before in
+    let q = told-at _ _ (at .point-of .ensures) (w .q .given .1) in
+    let d = to .draw-to .ensures in
+    got-draws _ (at .before .before .before .before .t2 .given .1)
+    (record { cells = d .cells; points = d .points; tells = λ vs st. past _ _ _ _ _ (rw (le-ltb _ _ (at .before .if1 .left), q .0)) (rw (q .1)) (d .tells vs st) })))

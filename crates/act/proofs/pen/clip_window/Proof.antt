@@ -1,7 +1,9 @@
 -- `clip_window`: a corner outside is 25.
-use mathlib.Core.Path.{refl}
+use mathlib.Core.Path.{refl, _∙_}
 use borrow.Author.Needs.{needs}
+use Rattle.rules.specs.Environment.{windowed}
 use Rattle.act.proofs.Acting.{stays, turns}
+use Rattle.act.proofs.Handing.{passed-moves, got-moves, settled, repointed}
 use Rattle.act.proofs.PointLaws.{told-outside, told-at}
 use Rattle.act.proofs.pen.clip_window.Statement.{statement}
 use Rattle.act.proofs.pen.clip_window.Tie as tie
@@ -9,19 +11,38 @@ use Rattle.act.proofs.pen.clip_window.Tie as tie
 pub clip-window-spec : {M : Type 1} → statement M
 clip-window-spec =
     tie.close (tie.spec
-    (λ c κs. search needs) (λ c. search needs) (λ c. search needs) (λ c κs. search needs)
-    (λ c n b vs st s.
-    let out = told-outside _ _ (c .before .before .before .point-of .ensures) (c .before .enum-told .given .1) in
-    stays _ _ _ {n = 25} (rw out) (rw (c .refused .ensures)))
-    (λ c κs. search needs) (λ c. search needs) (λ c. search needs) (λ c κs. search needs)
-    (λ c n b vs st s.
-    let at = c .before .before .before in
-    let p = told-at _ _ (at .before .before .before .before .point-of .ensures) (at .before .before .p .given .1) in
-    let out = told-outside _ _ (at .point-of2 .ensures) (c .before .enum-told2 .given .1) in
-    stays _ _ _ {n = 25} (rw (p .0, out)) (rw (c .refused2 .ensures)))
-    (λ c κs. search needs)
-    (λ c n b vs st s.
-    let at = c .before .before .before .before in
-    let p = told-at _ _ (at .before .before .before .before .point-of .ensures) (at .before .before .p .given .1) in
-    let q = told-at _ _ (at .point-of2 .ensures) (c .before .before .q .given .1) in
-    turns _ _ _ (rw (p .0, q .0)) refl (rw (c .window .ensures, p .1, q .1))))
+    (λ c. search needs) (λ c. search needs) (λ c κs. search needs) (λ c. search needs) (λ c. search needs)
+    (λ c n.
+    let at = c .before .before in
+    let t = at .before .before in
+    let pre = t .before .before .pre in
+    let out = told-outside _ _ (at .point-of .ensures) (c .enum-told .given .1) in
+    got-moves _ (t .t2 .given .1) (record { cells = pre .0; points = pre .1; tells = λ b vs st s. stays _ _ _ s {n = 25} (rw out) refl }))
+    (λ c κs. search needs) (λ c. search needs) (λ c. search needs)
+    (λ c n.
+    let second = c .before .before in
+    let first = second .before .before .before .before in
+    let t = first .before .before in
+    let pre = t .before .before .pre in
+    let p = told-at _ _ (first .point-of .ensures) (second .before .before .p .given .1) in
+    let out = told-outside _ _ (second .point-of2 .ensures) (c .enum-told2 .given .1) in
+    got-moves _ (t .t2 .given .1) (record { cells = pre .0; points = pre .1; tells = λ b vs st s. stays _ _ _ s {n = 25} (rw (p .0, out)) refl }))
+    (λ c κs. search needs) (λ c κs. search needs) (λ c κs. search needs)
+    (λ c n. let pre = c .before .before .before .pre in passed-moves _ (c .before .t .given .1) (pre .0) (pre .1))
+    (λ c n.
+    let m = c .before .before in
+    let w = m .before in
+    let d = w .before .before .before in
+    let second = d .before .before in
+    let first = second .before .before .before .before in
+    let p = told-at _ _ (first .point-of .ensures) (second .before .before .p .given .1) in
+    let q = told-at _ _ (second .point-of2 .ensures) (d .q .given .1) in
+    let g = c .go-to .ensures in
+    got-moves _ (first .before .before .t2 .given .1)
+    (record {
+      cells = g .1 .full;
+      points = m .set-window .ensures .full;
+      tells = λ b vs st s.
+          turns _ _ _ s (rw (p .0, q .0)) refl
+          (settled (g .0) (repointed windowed (w .window .ensures ∙ rw (p .1, q .1)) (m .set-window .ensures) (g .1) b vs st));
+    })))

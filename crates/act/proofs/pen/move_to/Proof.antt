@@ -1,7 +1,9 @@
 -- `move_to`: a point outside is 25.
 use mathlib.Core.Path.{refl}
 use borrow.Author.Needs.{needs}
+use Rattle.rules.specs.Environment.{moved}
 use Rattle.act.proofs.Acting.{stays, turns}
+use Rattle.act.proofs.Handing.{passed-moves, got-moves, settled, repointed}
 use Rattle.act.proofs.PointLaws.{told-outside, told-at}
 use Rattle.act.proofs.pen.move_to.Statement.{statement}
 use Rattle.act.proofs.pen.move_to.Tie as tie
@@ -9,10 +11,24 @@ use Rattle.act.proofs.pen.move_to.Tie as tie
 pub move-to-spec : {M : Type 1} → statement M
 move-to-spec =
     tie.close (tie.spec
-    (λ c κs. search needs) (λ c. search needs) (λ c. search needs) (λ c κs. search needs)
-    (λ c n b vs st s.
-    let out = told-outside _ _ (c .before .before .before .point-of .ensures) (c .before .enum-told .given .1) in
-    stays _ _ _ {n = 25} (rw out) (rw (c .refused .ensures)))
-    (λ c n b vs st s.
-    let p = told-at _ _ (c .before .before .before .point-of .ensures) (c .before .p .given .1) in
-    turns _ _ _ (rw (p .0)) refl (rw (p .1))))
+    (λ c. search needs) (λ c. search needs) (λ c κs. search needs) (λ c. search needs) (λ c. search needs)
+    (λ c n.
+    let at = c .before .before in
+    let t = at .before .before in
+    let pre = t .before .before .pre in
+    let out = told-outside _ _ (at .point-of .ensures) (c .enum-told .given .1) in
+    got-moves _ (t .t2 .given .1) (record { cells = pre .0; points = pre .1; tells = λ b vs st s. stays _ _ _ s {n = 25} (rw out) refl }))
+    (λ c κs. search needs) (λ c κs. search needs)
+    (λ c n. let pre = c .before .before .before .pre in passed-moves _ (c .before .t .given .1) (pre .0) (pre .1))
+    (λ c n.
+    let m = c .before .before in
+    let w = m .before .before .before in
+    let at = w .before .before in
+    let p = told-at _ _ (at .point-of .ensures) (w .p .given .1) in
+    let g = c .go-to .ensures in
+    got-moves _ (at .before .before .t2 .given .1)
+    (record {
+      cells = g .1 .full;
+      points = m .set-position .ensures .full;
+      tells = λ b vs st s. turns _ _ _ s (rw (p .0)) refl (settled (g .0) (repointed moved (p .1) (m .set-position .ensures) (g .1) b vs st));
+    })))

@@ -1,10 +1,24 @@
--- `multiply`: what is put is the product with Vd's old value.
+-- `multiply`: the product with the operand is put.
 use borrow.Author.Needs.{needs}
+use Rattle.numbers.specs.Number.{product32}
+use Rattle.act.proofs.Handing.{passed-sets, got-sets, named}
+use Rattle.act.proofs.ValueLaws.{computed}
 use Rattle.act.proofs.values.multiply.Statement.{statement}
 use Rattle.act.proofs.values.multiply.Tie as tie
 
 pub multiply-spec : {M : Type 1} → statement M
 multiply-spec =
     tie.close (tie.spec
-    (λ c κs. search needs) (λ c κs. search needs) (λ c κs. search needs)
-    (λ c n. rw (← c .before .before .before .old .ensures, ← c .before .before .mul .ensures) (c .put .ensures)))
+    (λ c. search needs) (λ c. search needs)
+    (λ c κs. let t = c .before .before in named (t .t2 .given .1) (t .before .before .pre .0))
+    (λ c κs. search needs)
+    (λ c κs.
+    let t = c .before .before .before .before .before .before in
+    let p = t .before .before .pre in
+    (named (t .t2 .given .1) (p .0), p .1))
+    (λ c n. passed-sets _ (c .before .t .given .1) (c .before .before .before .pre .1))
+    (λ c n.
+    let a = c .before .before .before in
+    let t = a .before .before .before .before in
+    let o = t .t2 .given .0 .0 in
+    got-sets _ (t .t2 .given .1) (computed o _ (a .before .old .ensures) (λ x. product32 x (o .a)) (a .mul .ensures) (c .put .ensures))))

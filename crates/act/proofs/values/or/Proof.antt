@@ -1,10 +1,24 @@
--- `or`: what is put is Vd's old value or the operand, bit by bit.
+-- `or`: Vd's value or the operand, bit by bit, is put.
 use borrow.Author.Needs.{needs}
+use lib.Bits.{bitOr}
+use Rattle.act.proofs.Handing.{passed-sets, got-sets, named}
+use Rattle.act.proofs.ValueLaws.{computed}
 use Rattle.act.proofs.values.or.Statement.{statement}
 use Rattle.act.proofs.values.or.Tie as tie
 
 pub or-spec : {M : Type 1} → statement M
 or-spec =
     tie.close (tie.spec
-    (λ c κs. search needs) (λ c κs. search needs) (λ c κs. search needs)
-    (λ c n. rw (← c .before .before .before .old .ensures, ← c .before .before .or .ensures) (c .put .ensures)))
+    (λ c. search needs) (λ c. search needs)
+    (λ c κs. let t = c .before .before in named (t .t2 .given .1) (t .before .before .pre .0))
+    (λ c κs. search needs)
+    (λ c κs.
+    let t = c .before .before .before .before .before .before in
+    let p = t .before .before .pre in
+    (named (t .t2 .given .1) (p .0), p .1))
+    (λ c n. passed-sets _ (c .before .t .given .1) (c .before .before .before .pre .1))
+    (λ c n.
+    let a = c .before .before .before in
+    let t = a .before .before .before .before in
+    let o = t .t2 .given .0 .0 in
+    got-sets _ (t .t2 .given .1) (computed o _ (a .before .old .ensures) (λ x. bitOr x (o .a)) (a .or .ensures) (c .put .ensures))))

@@ -2,8 +2,14 @@
 use mathlib.Core.Path.{refl}
 use borrow.Author.Needs.{needs}
 use Rattle.act.proofs.Acting.{turns}
+use Rattle.act.proofs.Handing.{settled}
 use Rattle.act.proofs.values.put.Statement.{statement}
 use Rattle.act.proofs.values.put.Tie as tie
 
 pub put-spec : {M : Type 1} → statement M
-put-spec = tie.close (tie.spec (λ c. search needs) (λ c. search needs) (λ c. search needs) (λ c b st s. turns _ _ s refl refl refl))
+put-spec =
+    tie.close (tie.spec
+    (λ c. search needs) (λ c. search needs) (λ c. search needs) (λ c κs. search needs)
+    (λ c.
+    let g = c .go-to .ensures in
+    record { cells = g .1 .full; tells = λ b ps st s. turns _ _ _ s refl refl (settled (g .0) (g .1 .shows b ps _ st)) }))

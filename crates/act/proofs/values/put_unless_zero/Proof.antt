@@ -7,8 +7,9 @@ use Rattle.act.proofs.values.put_unless_zero.Tie as tie
 pub put-unless-zero-spec : {M : Type 1} → statement M
 put-unless-zero-spec =
     tie.close (tie.spec
-    (λ c. search needs) (λ c κs. search needs) (λ c. search needs) (λ c κs. search needs)
-    (λ c v is. by-zero _ (c .before .before .before .args .o) _ _ is (c .before .enum-told .given .1) (c .refused .ensures))
+    (λ c. search needs) (λ c. search needs) (λ c κs. search needs)
+    (λ c v is. let s = c .before .before in by-zero (s .args .o) (s .args .next) v is (c .enum-told .given .1) (s .pre .1))
     (λ c v is.
-    let s = c .before .before .before .before .before .args in
-    by-other v (s .o) (s .r) (s .vars .now) is (c .put .result) _ (c .before .before .before .x .given .1) (c .put .ensures)))
+    let t = c .before .before .before .before in
+    let s = t .before .before .args in
+    by-other (s .o) (s .next) v is (t .x .given .1) (c .put .ensures)))

@@ -1,8 +1,6 @@
 -- `from`: the tests tell whether the list ends inside the opcode, and whether the last of the n is above 63.
-use mathlib.Core.Path.{ap, _∙_}
 use native.Mathlib.Omega.{arith}
 use borrow.Author.Needs.{needs}
-use Rattle.fetch.specs.declared.source.Taken.the-variants.{Got}
 use Rattle.fetch.proofs.Taking.{short, over, from-variable}
 use Rattle.fetch.proofs.source.from.Statement.{statement}
 use Rattle.fetch.proofs.source.from.Tie as tie
@@ -18,4 +16,5 @@ from-spec =
     (λ c. over _ _ _ _ (omega arith) (omega arith))
     (λ c κs. search needs)
     (λ c κs. search needs)
-    (λ c. ap Got (c .followers .ensures) ∙ from-variable _ _ _ _ _ (omega arith) (omega arith) (omega arith) (omega arith)))
+    (λ c. search needs)
+    (λ c. from-variable _ _ _ _ _ (omega arith) (omega arith) (omega arith) (omega arith) (c .before .followers .ensures) (omega arith)))

@@ -12,7 +12,8 @@ long-word-spec =
     (tie.spec
     (λ c κs. search needs)
     (λ c vs. short _ _ _ vs (omega arith))
+    (λ c. search needs)
     (λ c κs. search needs)
     (λ c κs. search needs)
     (λ c κs. search needs)
-    (λ c vs. c .values .ensures ∙ three _ _ _ vs (omega arith) (omega arith) (search needs) refl))
+    (λ c vs. c .values .ensures ∙ three _ _ _ vs (omega arith) (omega arith) (search needs) refl (omega arith)))

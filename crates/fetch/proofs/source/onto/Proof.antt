@@ -10,6 +10,8 @@ onto-spec =
     tie.close
     (tie.spec
     (λ c κs. search needs)
-    (λ c. above _ _ (omega arith))
+    (λ c. (above _ _ _ (omega arith), tt))
     (λ c κs. search needs)
-    (λ c. below _ _ _ (omega arith) (omega arith)))
+    (λ c. search needs)
+    (λ c. search needs)
+    (λ c. (below _ _ _ _ (omega arith) (omega arith) (omega arith), omega arith)))

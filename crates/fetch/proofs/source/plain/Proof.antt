@@ -16,14 +16,17 @@ plain-spec =
     (λ c κs. search needs)
     (λ c κs. search needs)
     (λ c κs. search needs)
+    (λ c. search needs)
+    (λ c. search needs)
     (λ c vs.
-    let p = c .before .before in
+    let q = c .before in
+    let p = q .before .before in
     fine _ _ _ _ (rw all-words (omega arith)) (rw no-variable (omega arith))
     (rw (
       no-destination,
       ← (p .before .before .operand .ensures vs),
       ← (p .before .operand2 .ensures vs),
       ← (p .operand3 .ensures vs),
-      ← (c .before .operand4 .ensures vs),
-      ← (c .operand5 .ensures vs),
-    ))))
+      ← (q .before .operand4 .ensures vs),
+      ← (q .operand5 .ensures vs),
+    )) (rw all-words (omega arith))))

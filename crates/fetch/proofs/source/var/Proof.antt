@@ -11,6 +11,6 @@ var-spec =
     tie.close
     (tie.spec
     (λ c κs. search needs)
-    (λ c vs. short _ _ _ vs (omega arith))
+    (λ c. (λ vs. short _ _ _ vs (omega arith), tt))
     (λ c κs. search needs)
-    (λ c vs. c .onto .ensures ∙ onto _ _ _ vs (omega arith) _ (omega arith) (omega arith) (search needs) refl))
+    (λ c. (λ vs. c .onto .ensures .0 ∙ onto _ _ _ vs (omega arith) _ (omega arith) (omega arith) (search needs) refl, c .onto .ensures .1)))

@@ -11,10 +11,10 @@ var-var-spec =
     tie.close
     (tie.spec
     (λ c κs. search needs)
-    (λ c. short _ _ _ _ (omega arith))
+    (λ c. (short _ _ _ _ (omega arith), tt))
     (λ c κs. search needs)
-    (λ c. over _ _ _ _ (omega arith) (omega arith))
+    (λ c. (over _ _ _ _ (omega arith) (omega arith), tt))
     (λ c κs. search needs)
     (λ c κs. search needs)
     (λ c κs. search needs)
-    (λ c. c .onto .ensures ∙ onto _ _ _ _ (omega arith) _ (omega arith) (omega arith) (cc) refl))
+    (λ c. (c .onto .ensures .0 ∙ onto _ _ _ _ (omega arith) _ (omega arith) (omega arith) (cc) refl, c .onto .ensures .1)))

@@ -2,10 +2,14 @@
 use mathlib.Core.Path.{_≡_, refl, ap, _∙_}
 use borrow.Author.Needs.{needs}
 use lib.ListN.{length}
-use Rattle.rules.specs.Environment.{held}
+use Rattle.player.specs.Run.{runs}
+use Rattle.rules.specs.Environment.{Env, held}
+use Rattle.rules.specs.Door.{fits}
+use Rattle.rules.specs.Step.{afgis}
+use Rattle.act.specs.Held.{look}
 use Rattle.run.specs.Turns.{numberOf}
 use Rattle.run.proofs.Doors.{refused-whole, run-whole, let-in}
-use Rattle.run.proofs.Stepping.{answers}
+use Rattle.run.proofs.Lending.{seven, six, lent, answers}
 use Rattle.run.proofs.run.run.Statement.{statement}
 use Rattle.run.proofs.run.run.Tie as tie
 
@@ -17,22 +21,41 @@ returns c =
 full : (c : tie.After-stack2) → length (c .before .before .before .before .before .before .before .args .env .stack) ≡ 16
 full c = search needs
 
+-- what is lent to the loop stands for the environment
+same : (c : tie.After-turns-arg) → let e = c .before .before .before .before .before .before .before .before .before .before .before .before .before .before .before .before .args .env in
+    look (e .bounds) (c .before .before .before .before .before .before .cells-of .result) (c .before .before .before .before .before .points-of .result) (e .variables) (e .stack) ≡ held e
+same c =
+    let e = c .before .before .before .before .before .before .before .before .before .before .before .before .before .before .before .before .args .env in
+    lent (e .registers) (c .before .before .before .before .before .before .cells-of .ensures) (c .before .before .before .before .before .points-of .ensures) (e .bounds) (e .variables) (e .stack)
+
 turns-requires : tie.Need-turns-requires
 turns-requires c κs =
-    let d = c .before .before .before .before in
-    let s = d .before .before .before .before .before .before .before .before in
-    let a = s .args in
-    let o = let-in (a .list .now) (a .screen .now) (held (a .env)) (a .budget) _ (d .door .ensures _ _ refl) (c .before .before .before .if1 .left) in
-    (record { size = o .size; ranges = o .ranges; full = full (d .before); area = o .area }, o .few)
+    let d = c .before .before .before .before .before .before .before .before in
+    let a = d .before .before .before .before .before .before .before .before .args in
+    let o = let-in (a .list .now) (a .screen .now) (held (a .env)) (a .budget) _ (d .door .ensures _ _ refl) (c .before .before .before .before .before .before .before .if1 .left) in
+    let cs = c .before .before .before .before .before .before .cells-of .ensures in
+    let ps = c .before .before .before .before .before .points-of .ensures in
+    record {
+      few = o .few;
+      cells = seven _ cs ps;
+      points = six _ cs ps;
+      size = o .size;
+      ranges = ap fits (same c) ∙ o .ranges;
+      full = full (d .before);
+      area = o .area;
+    }
 
 returns-2 : tie.Need-returns-2
 returns-2 c =
-    let t = c .before .before .before .before .before in
-    let d = t .before .before .before .before .before in
+    let t = c .before .before .before .before .before .before .before in
+    let f = t .before .before .before .before .before .before .before .before in
+    let d = f .before in
     let a = d .before .before .before .before .before .before .before .before .args in
-    answers (a .env .bounds) (t .turns .result) _ _ _ _ (c .number-of .ensures ∙ ap numberOf (c .before .state-of .ensures))
+    let z = t .turns .last .1 .1 in
+    answers _ _ (z .0) (z .1 .0) _ _ _ _ _ (c .before .before .gathered .ensures) (c .number-of .ensures ∙ ap numberOf (c .before .state-of .ensures))
     (t .turns .ensures
-    ∙ run-whole (a .list .now) (a .screen .now) (held (a .env)) (a .budget) _ (d .door .ensures _ _ refl) (t .before .before .before .before .if1 .left))
+    ∙ (ap (λ (x : Env). runs (afgis (a .list .now)) (a .budget) x (a .screen .now) 0) (same (t .before))
+    ∙ run-whole (a .list .now) (a .screen .now) (held (a .env)) (a .budget) _ (d .door .ensures _ _ refl) (f .if1 .left)))
 
 pub run-spec : {M : Type 1} → statement M
 run-spec =
@@ -40,7 +63,10 @@ run-spec =
     (tie.spec
     (λ c κs. search needs)
     returns
+    (λ c κs. search needs)
+    (λ c κs. search needs)
     turns-requires
+    (λ c κs. search needs)
     (λ c κs. search needs)
     (λ c κs. search needs)
     (λ c. search needs)

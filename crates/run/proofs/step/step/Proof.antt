@@ -1,49 +1,187 @@
--- `step`: fetching and acting are the two halves of the rules' order.
-use mathlib.Core.Path.{sym, _∙_}
+-- `step`: the word has its row of the table, what was taken is what the row's source names, and the op does what its rule says.
+use Prim.Native.Nat.{ℕ}
+use mathlib.Core.Path.{_≡_, sym}
+use native.Mathlib.Omega.{arith}
 use borrow.Author.Needs.{needs}
-use Rattle.fetch.proofs.Fetching.{got-dest}
-use Rattle.fetch.proofs.Steps.{step-refused, step-got}
-use Rattle.run.proofs.Stepping.{drawable, stacked, refuses, acts}
+use lib.ListN.{length}
+use Rattle.rules.specs.Table.{formOf}
+use Rattle.rules.proofs.TableLaws.{at, unknown}
+use Rattle.run.proofs.Stepping.{Here, step-20, reaches, drawable, stacked, step-21, step-turns, step-sets, step-stacks, step-moves, step-paints, step-draws}
 use Rattle.run.proofs.step.step.Statement.{statement}
 use Rattle.run.proofs.step.step.Tie as tie
 
-act-requires : tie.Need-act-requires
-act-requires c κs =
-    let m = c .before .before .before .before .before in
-    let s = m .before .before .before .before .before .before in
-    let a = s .args in
-    let d = drawable (a .b) (a .r) (a .vars .now) (a .stack .now) (a .screen .now) (s .pre .0) in
-    let k = stacked (a .b) (a .r) (a .vars .now) (a .stack .now) (a .screen .now) (s .pre .0) in (
-      record { fitting = d .fitting; here = d .here },
-      record { deep = k .deep; full = k .full },
-      got-dest _ _ _ (sym (m .before .fetch .ensures) ∙ c .before .before .before .before .t2 .given .1),
-    )
+here : (d : tie.After-shared-slice-known2) → let a = d .before .before .before .before .before .before .before .args in
+    Here (a .words .now) (a .b) (a .cells .now) (a .points .now) (a .vars .now) (a .stack .now) (a .screen .now) (d .before .before .before .counter .result .0)
+here d = record { ready = d .before .before .before .before .before .before .before .pre; counter = d .before .before .before .counter .ensures; inside = d .before .if1 .left }
 
-returns : tie.Need-returns
-returns c =
-    let f = c .before .before .before in
-    (refuses _ _ _ _ (step-refused _ _ (sym (f .fetch .ensures) ∙ c .before .t .given .1)), f .before .before .before .before .before .pre .0 .full)
+abbrev count : tie.After-shared-slice-known2 → ℕ
+count d = length (d .before .before .before .before .before .before .before .args .words .now)
 
-returns-2 : tie.Need-returns-2
-returns-2 c =
-    let p = c .before .before in
-    let k = p .before .before .before .before .before in
-    let a = k .before .before .before .before .before .before .before .args in
-    let z = p .act .last .1 .1 .1 .1 .1 in (
-      acts (a .words .now) (a .b) (a .r) (k .t2 .given .0 .1 .1 .0) (a .vars .now) (a .stack .now) (a .screen .now) (z .0) (z .1 .0) (z .1 .1 .0) (p .act .result) _
-          (p .act .ensures .0) (step-got _ _ (sym (k .before .before .fetch .ensures) ∙ k .t2 .given .1)),
-      p .act .ensures .1,
-    )
+row : {n k : ℕ} → n ≡ k → formOf n ≡ formOf k
+row e = sym (at e)
 
 pub step-spec : {M : Type 1} → statement M
+unfolding formOf
 step-spec =
     tie.close
     (tie.spec
     (λ c κs. search needs)
     (λ c. search needs)
+    (λ c. step-20 (c .before .before .before .before .before .before .pre) (c .before .before .counter .ensures) (c .if1 .taken))
     (λ c. search needs)
     (λ c. search needs)
-    act-requires
-    returns
     (λ c. search needs)
-    returns-2)
+    (λ c κs. reaches (here (c .before)))
+    (λ c κs. (here (c .before .before .before)) .ready .cells)
+    (λ c κs. reaches (here (c .before)))
+    (λ c κs. (here (c .before .before .before)) .ready .cells)
+    (λ c κs. reaches (here (c .before)))
+    (λ c κs. (c .before .before .long-var .ensures .1, (here (c .before .before .before .before)) .ready .cells))
+    (λ c κs. reaches (here (c .before .before)))
+    (λ c κs. (c .before .before .var-var .ensures .1, (here (c .before .before .before .before .before)) .ready .cells))
+    (λ c κs. reaches (here (c .before)))
+    (λ c κs. (c .before .before .long-var2 .ensures .1, (here (c .before .before .before .before)) .ready .cells))
+    (λ c κs. reaches (here (c .before .before)))
+    (λ c κs. (c .before .before .var-var2 .ensures .1, (here (c .before .before .before .before .before)) .ready .cells))
+    (λ c κs. reaches (here (c .before)))
+    (λ c κs. stacked (here (c .before .before .before .before)))
+    (λ c κs. (reaches (here (c .before .before)), omega arith, omega arith))
+    (λ c κs. stacked (here (c .before .before .before .before .before)))
+    (λ c κs. reaches (here (c .before)))
+    (λ c κs. (here (c .before .before .before)) .ready .cells)
+    (λ c κs. (reaches (here (c .before .before)), omega arith, omega arith))
+    (λ c κs. (here (c .before .before .before .before)) .ready .cells)
+    (λ c κs. reaches (here (c .before)))
+    (λ c κs. ((here (c .before .before .before .before)) .ready .cells, (here (c .before .before .before .before)) .ready .points))
+    (λ c κs. (reaches (here (c .before .before)), omega arith, omega arith))
+    (λ c κs. ((here (c .before .before .before .before .before)) .ready .cells, (here (c .before .before .before .before .before)) .ready .points))
+    (λ c κs. reaches (here (c .before)))
+    (λ c κs. (here (c .before .before .before)) .ready .cells)
+    (λ c κs. (reaches (here (c .before .before)), omega arith, omega arith))
+    (λ c κs. (here (c .before .before .before .before)) .ready .cells)
+    (λ c κs. reaches (here (c .before)))
+    (λ c κs. (c .before .before .long-var3 .ensures .1, (here (c .before .before .before .before)) .ready .cells))
+    (λ c κs. reaches (here (c .before .before)))
+    (λ c κs. (c .before .before .var-var3 .ensures .1, (here (c .before .before .before .before .before)) .ready .cells))
+    (λ c κs. reaches (here (c .before)))
+    (λ c κs. (c .before .before .var .ensures .1, (here (c .before .before .before .before)) .ready .cells))
+    (λ c κs. reaches (here (c .before .before)))
+    (λ c κs. (c .before .before .var-var4 .ensures .1, (here (c .before .before .before .before .before)) .ready .cells))
+    (λ c κs. reaches (here (c .before)))
+    (λ c κs. (c .before .before .var2 .ensures .1, (here (c .before .before .before .before)) .ready .cells))
+    (λ c κs. reaches (here (c .before)))
+    (λ c κs. (c .before .before .word-var .ensures .1, (here (c .before .before .before .before)) .ready .cells))
+    (λ c κs. reaches (here (c .before)))
+    (λ c κs. (c .before .before .long-var4 .ensures .1, (here (c .before .before .before .before)) .ready .cells))
+    (λ c κs. reaches (here (c .before .before)))
+    (λ c κs. (c .before .before .var-var5 .ensures .1, (here (c .before .before .before .before .before)) .ready .cells))
+    (λ c κs. reaches (here (c .before)))
+    (λ c κs. drawable (here (c .before .before .before .before .before)))
+    (λ c κs. (reaches (here (c .before .before)), omega arith, omega arith))
+    (λ c κs. drawable (here (c .before .before .before .before .before .before)))
+    (λ c κs. reaches (here (c .before)))
+    (λ c κs. drawable (here (c .before .before .before .before .before)))
+    (λ c κs. (reaches (here (c .before .before)), omega arith, omega arith))
+    (λ c κs. drawable (here (c .before .before .before .before .before .before)))
+    (λ c κs. reaches (here (c .before)))
+    (λ c κs. drawable (here (c .before .before .before .before .before)))
+    (λ c κs. (reaches (here (c .before .before)), omega arith, omega arith))
+    (λ c κs. drawable (here (c .before .before .before .before .before .before)))
+    (λ c κs. reaches (here (c .before .before)))
+    (λ c κs. (c .before .before .var-var6 .ensures .1, (here (c .before .before .before .before .before)) .ready .cells))
+    (λ c κs. reaches (here (c .before .before)))
+    (λ c κs. (c .before .before .var-var7 .ensures .1, (here (c .before .before .before .before .before)) .ready .cells))
+    (λ c κs. reaches (here (c .before)))
+    (λ c κs. ((here (c .before .before .before .before)) .ready .cells, (here (c .before .before .before .before)) .ready .points))
+    (λ c κs. (reaches (here (c .before .before)), omega arith, omega arith))
+    (λ c κs. ((here (c .before .before .before .before .before)) .ready .cells, (here (c .before .before .before .before .before)) .ready .points))
+    (λ c κs. reaches (here (c .before)))
+    (λ c κs. ((here (c .before .before .before .before)) .ready .cells, (here (c .before .before .before .before)) .ready .points))
+    (λ c κs. (reaches (here (c .before .before)), omega arith, omega arith))
+    (λ c κs. ((here (c .before .before .before .before .before)) .ready .cells, (here (c .before .before .before .before .before)) .ready .points))
+    (λ c κs. reaches (here (c .before)))
+    (λ c κs. (c .before .before .long-var5 .ensures .1, (here (c .before .before .before .before)) .ready .cells))
+    (λ c κs. reaches (here (c .before .before)))
+    (λ c κs. (c .before .before .var-var8 .ensures .1, (here (c .before .before .before .before .before)) .ready .cells))
+    (λ c κs. reaches (here (c .before)))
+    (λ c κs. drawable (here (c .before .before .before .before .before)))
+    (λ c κs. (reaches (here (c .before .before)), omega arith, omega arith))
+    (λ c κs. drawable (here (c .before .before .before .before .before .before)))
+    (λ c κs. reaches (here (c .before)))
+    (λ c κs. stacked (here (c .before .before .before .before)))
+    (λ c κs. reaches (here (c .before)))
+    (λ c κs. (here (c .before .before .before)) .ready .cells)
+    (λ c κs. reaches (here (c .before)))
+    (λ c κs. (here (c .before .before .before)) .ready .cells)
+    (λ c κs. reaches (here (c .before)))
+    (λ c κs. stacked (here (c .before .before .before .before)))
+    (λ c κs. (reaches (here (c .before .before)), omega arith, omega arith))
+    (λ c κs. stacked (here (c .before .before .before .before .before)))
+    (λ c κs. reaches (here (c .before)))
+    (λ c κs. drawable (here (c .before .before .before .before .before)))
+    (λ c κs. (reaches (here (c .before .before)), omega arith, omega arith))
+    (λ c κs. drawable (here (c .before .before .before .before .before .before)))
+    (λ c κs. reaches (here (c .before)))
+    (λ c κs. drawable (here (c .before .before .before .before .before)))
+    (λ c κs. (reaches (here (c .before .before)), omega arith, omega arith))
+    (λ c κs. drawable (here (c .before .before .before .before .before .before)))
+    (λ c. step-turns (here (c .before .before .before .before)) (row (c .before .before .before .match .keys1)) (c .before .before .plain .ensures _) (c .noop .ensures (count (c .before .before .before .before))))
+    (λ c. step-turns (here (c .before .before .before .before)) (row (c .before .before .before .match .keys2)) (c .before .before .plain2 .ensures _) (c .end .ensures (count (c .before .before .before .before))))
+    (λ c. step-sets (here (c .before .before .before .before .before)) (row (c .before .before .before .before .match .keys3)) (c .before .before .before .long-var .ensures .0 _) (c .add .ensures (count (c .before .before .before .before .before))))
+    (λ c. step-sets (here (c .before .before .before .before .before .before)) (row (c .before .before .before .before .before .match .keys4)) (c .before .before .before .var-var .ensures .0) (c .add2 .ensures (count (c .before .before .before .before .before .before))))
+    (λ c. step-sets (here (c .before .before .before .before .before)) (row (c .before .before .before .before .match .keys5)) (c .before .before .before .long-var2 .ensures .0 _) (c .and .ensures (count (c .before .before .before .before .before))))
+    (λ c. step-sets (here (c .before .before .before .before .before .before)) (row (c .before .before .before .before .before .match .keys6)) (c .before .before .before .var-var2 .ensures .0) (c .and2 .ensures (count (c .before .before .before .before .before .before))))
+    (λ c. step-stacks (here (c .before .before .before .before .before)) (row (c .before .before .before .before .match .keys7)) (c .before .before .before .long .ensures _) (c .call .ensures))
+    (λ c. step-stacks (here (c .before .before .before .before .before .before)) (row (c .before .before .before .before .before .match .keys8)) (c .before .before .before .from .ensures) (c .call2 .ensures))
+    (λ c. step-turns (here (c .before .before .before .before)) (row (c .before .before .before .match .keys9)) (c .before .before .plain3 .ensures _) (c .clip-mode .ensures (count (c .before .before .before .before))))
+    (λ c. step-turns (here (c .before .before .before .before .before)) (row (c .before .before .before .before .match .keys10)) (c .before .before .from2 .ensures) (c .clip-mode2 .ensures (count (c .before .before .before .before .before))))
+    (λ c. step-moves (here (c .before .before .before .before .before)) (row (c .before .before .before .before .match .keys11)) (c .before .before .before .plain4 .ensures _) (c .clip-window .ensures (count (c .before .before .before .before .before))))
+    (λ c. step-moves (here (c .before .before .before .before .before .before)) (row (c .before .before .before .before .before .match .keys12)) (c .before .before .before .from3 .ensures) (c .clip-window2 .ensures (count (c .before .before .before .before .before .before))))
+    (λ c. step-turns (here (c .before .before .before .before)) (row (c .before .before .before .match .keys13)) (c .before .before .long2 .ensures _) (c .colour .ensures (count (c .before .before .before .before))))
+    (λ c. step-turns (here (c .before .before .before .before .before)) (row (c .before .before .before .before .match .keys14)) (c .before .before .from4 .ensures) (c .colour2 .ensures (count (c .before .before .before .before .before))))
+    (λ c. step-sets (here (c .before .before .before .before .before)) (row (c .before .before .before .before .match .keys15)) (c .before .before .before .long-var3 .ensures .0 _) (c .compare .ensures (count (c .before .before .before .before .before))))
+    (λ c. step-sets (here (c .before .before .before .before .before .before)) (row (c .before .before .before .before .before .match .keys16)) (c .before .before .before .var-var3 .ensures .0) (c .compare2 .ensures (count (c .before .before .before .before .before .before))))
+    (λ c. step-sets (here (c .before .before .before .before .before)) (row (c .before .before .before .before .match .keys17)) (c .before .before .before .var .ensures .0 _) (c .decrement .ensures (count (c .before .before .before .before .before))))
+    (λ c. step-sets (here (c .before .before .before .before .before .before)) (row (c .before .before .before .before .before .match .keys18)) (c .before .before .before .var-var4 .ensures .0) (c .divide .ensures (count (c .before .before .before .before .before .before))))
+    (λ c. step-sets (here (c .before .before .before .before .before)) (row (c .before .before .before .before .match .keys19)) (c .before .before .before .var2 .ensures .0 _) (c .increment .ensures (count (c .before .before .before .before .before))))
+    (λ c. step-sets (here (c .before .before .before .before .before)) (row (c .before .before .before .before .match .keys20)) (c .before .before .before .word-var .ensures .0 _) (c .load .ensures (count (c .before .before .before .before .before))))
+    (λ c. step-sets (here (c .before .before .before .before .before)) (row (c .before .before .before .before .match .keys21)) (c .before .before .before .long-var4 .ensures .0 _) (c .load2 .ensures (count (c .before .before .before .before .before))))
+    (λ c. step-sets (here (c .before .before .before .before .before .before)) (row (c .before .before .before .before .before .match .keys22)) (c .before .before .before .var-var5 .ensures .0) (c .load3 .ensures (count (c .before .before .before .before .before .before))))
+    (λ c. search needs)
+    (λ c. step-paints (here (c .before .before .before .before .before .before .before .before)) (row (c .before .before .before .before .before .before .before .match .keys23)) (c .before .before .before .before .before .before .plain5 .ensures _) (c .before .before .line .ensures (count (c .before .before .before .before .before .before .before .before))))
+    (λ c. search needs)
+    (λ c. step-paints (here (c .before .before .before .before .before .before .before .before .before)) (row (c .before .before .before .before .before .before .before .before .match .keys24)) (c .before .before .before .before .before .before .from5 .ensures) (c .before .before .line2 .ensures (count (c .before .before .before .before .before .before .before .before .before))))
+    (λ c. search needs)
+    (λ c. step-draws (here (c .before .before .before .before .before .before .before .before)) (row (c .before .before .before .before .before .before .before .match .keys25)) (c .before .before .before .before .before .before .plain6 .ensures _) (c .before .before .line-to .ensures (count (c .before .before .before .before .before .before .before .before))))
+    (λ c. search needs)
+    (λ c. step-draws (here (c .before .before .before .before .before .before .before .before .before)) (row (c .before .before .before .before .before .before .before .before .match .keys26)) (c .before .before .before .before .before .before .from6 .ensures) (c .before .before .line-to2 .ensures (count (c .before .before .before .before .before .before .before .before .before))))
+    (λ c. search needs)
+    (λ c. step-draws (here (c .before .before .before .before .before .before .before .before)) (row (c .before .before .before .before .before .before .before .match .keys27)) (c .before .before .before .before .before .before .plain7 .ensures _) (c .before .before .line-by .ensures (count (c .before .before .before .before .before .before .before .before))))
+    (λ c. search needs)
+    (λ c. step-draws (here (c .before .before .before .before .before .before .before .before .before)) (row (c .before .before .before .before .before .before .before .before .match .keys28)) (c .before .before .before .before .before .before .from7 .ensures) (c .before .before .line-by2 .ensures (count (c .before .before .before .before .before .before .before .before .before))))
+    (λ c. step-sets (here (c .before .before .before .before .before .before)) (row (c .before .before .before .before .before .match .keys29)) (c .before .before .before .var-var6 .ensures .0) (c .multiply .ensures (count (c .before .before .before .before .before .before))))
+    (λ c. step-sets (here (c .before .before .before .before .before .before)) (row (c .before .before .before .before .before .match .keys30)) (c .before .before .before .var-var7 .ensures .0) (c .remainder .ensures (count (c .before .before .before .before .before .before))))
+    (λ c. step-moves (here (c .before .before .before .before .before)) (row (c .before .before .before .before .match .keys31)) (c .before .before .before .plain8 .ensures _) (c .move-to .ensures (count (c .before .before .before .before .before))))
+    (λ c. step-moves (here (c .before .before .before .before .before .before)) (row (c .before .before .before .before .before .match .keys32)) (c .before .before .before .from8 .ensures) (c .move-to2 .ensures (count (c .before .before .before .before .before .before))))
+    (λ c. step-moves (here (c .before .before .before .before .before)) (row (c .before .before .before .before .match .keys33)) (c .before .before .before .plain9 .ensures _) (c .move-by .ensures (count (c .before .before .before .before .before))))
+    (λ c. step-moves (here (c .before .before .before .before .before .before)) (row (c .before .before .before .before .before .match .keys34)) (c .before .before .before .from9 .ensures) (c .move-by2 .ensures (count (c .before .before .before .before .before .before))))
+    (λ c. step-sets (here (c .before .before .before .before .before)) (row (c .before .before .before .before .match .keys35)) (c .before .before .before .long-var5 .ensures .0 _) (c .or .ensures (count (c .before .before .before .before .before))))
+    (λ c. step-sets (here (c .before .before .before .before .before .before)) (row (c .before .before .before .before .before .match .keys36)) (c .before .before .before .var-var8 .ensures .0) (c .or2 .ensures (count (c .before .before .before .before .before .before))))
+    (λ c. search needs)
+    (λ c. step-paints (here (c .before .before .before .before .before .before .before .before)) (row (c .before .before .before .before .before .before .before .match .keys37)) (c .before .before .before .before .before .before .plain10 .ensures _) (c .before .before .pixel .ensures (count (c .before .before .before .before .before .before .before .before))))
+    (λ c. search needs)
+    (λ c. step-paints (here (c .before .before .before .before .before .before .before .before .before)) (row (c .before .before .before .before .before .before .before .before .match .keys38)) (c .before .before .before .before .before .before .from10 .ensures) (c .before .before .pixel2 .ensures (count (c .before .before .before .before .before .before .before .before .before))))
+    (λ c. step-stacks (here (c .before .before .before .before .before)) (row (c .before .before .before .before .match .keys39)) (c .before .before .before .plain11 .ensures _) (c .come-back .ensures (count (c .before .before .before .before .before))))
+    (λ c. step-turns (here (c .before .before .before .before)) (row (c .before .before .before .match .keys40)) (c .before .before .word-long .ensures _) (c .jump .ensures))
+    (λ c. step-turns (here (c .before .before .before .before)) (row (c .before .before .before .match .keys41)) (c .before .before .plain12 .ensures _) (c .jump-by .ensures))
+    (λ c. step-stacks (here (c .before .before .before .before .before)) (row (c .before .before .before .before .match .keys42)) (c .before .before .before .plain13 .ensures _) (c .call-by .ensures))
+    (λ c. step-stacks (here (c .before .before .before .before .before .before)) (row (c .before .before .before .before .before .match .keys43)) (c .before .before .before .from11 .ensures) (c .call-by2 .ensures))
+    (λ c. search needs)
+    (λ c. step-paints (here (c .before .before .before .before .before .before .before .before)) (row (c .before .before .before .before .before .before .before .match .keys44)) (c .before .before .before .before .before .before .word2-long .ensures _) (c .before .before .pixel-colour .ensures (count (c .before .before .before .before .before .before .before .before))))
+    (λ c. search needs)
+    (λ c. step-paints (here (c .before .before .before .before .before .before .before .before .before)) (row (c .before .before .before .before .before .before .before .before .match .keys45)) (c .before .before .before .before .before .before .from12 .ensures) (c .before .before .pixel-colour2 .ensures (count (c .before .before .before .before .before .before .before .before .before))))
+    (λ c. search needs)
+    (λ c. step-paints (here (c .before .before .before .before .before .before .before .before)) (row (c .before .before .before .before .before .before .before .match .keys46)) (c .before .before .before .before .before .before .long-word .ensures _) (c .before .before .clear .ensures (count (c .before .before .before .before .before .before .before .before))))
+    (λ c. search needs)
+    (λ c. step-paints (here (c .before .before .before .before .before .before .before .before .before)) (row (c .before .before .before .before .before .before .before .before .match .keys47)) (c .before .before .before .before .before .before .from13 .ensures) (c .before .before .clear2 .ensures (count (c .before .before .before .before .before .before .before .before .before))))
+    (λ c. step-21 (here (c .before)) (unknown _ (c .match .rest))))

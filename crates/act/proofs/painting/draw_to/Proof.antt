@@ -1,0 +1,30 @@
+-- `draw_to`: the line is painted from the position before the position moves.
+use mathlib.Core.Path.{refl}
+use mathlib.Core.List.{[]}
+use borrow.Author.Needs.{needs}
+use Rattle.rules.specs.Environment.{moved}
+use Rattle.act.proofs.Acting.{drawn}
+use Rattle.act.proofs.Handing.{repointed}
+use Rattle.act.proofs.painting.draw_to.Statement.{statement}
+use Rattle.act.proofs.painting.draw_to.Tie as tie
+
+pub draw-to-spec : {M : Type 1} → statement M
+draw-to-spec =
+    tie.close (tie.spec
+    (λ c κs. search needs)
+    (λ c κs.
+    let here = c .before .before .before in
+    let pre = here .before .before .before .pre in
+    (pre .0, (rw (here .position .ensures []) (pre .0 .here), pre .1)))
+    (λ c κs. search needs) (λ c κs. search needs) (λ c. search needs)
+    (λ c.
+    let m = c .before .before in
+    let d = m .before .before .before .before in
+    let here = d .before .before .before .before in
+    let g = c .go-to .ensures in
+    record {
+      cells = g .1 .full;
+      points = m .set-position .ensures .full;
+      tells = λ vs st.
+          drawn _ _ _ _ refl (g .0) (repointed moved refl (m .set-position .ensures) (g .1) _ vs st) (rw (here .position .ensures []) at (d .stroke .ensures));
+    }))

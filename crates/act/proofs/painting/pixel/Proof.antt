@@ -1,0 +1,19 @@
+-- `pixel`: the colour is the foreground's.
+use borrow.Author.Needs.{needs}
+use Rattle.rules.specs.Opcodes.{point}
+use Rattle.act.proofs.Handing.{passed-paints, got-paints}
+use Rattle.act.proofs.PointLaws.{foreground}
+use Rattle.act.proofs.painting.pixel.Statement.{statement}
+use Rattle.act.proofs.painting.pixel.Tie as tie
+
+pub pixel-spec : {M : Type 1} → statement M
+pixel-spec =
+    tie.close (tie.spec
+    (λ c. search needs) (λ c. search needs) (λ c κs. search needs) (λ c κs. search needs)
+    (λ c n. passed-paints _ (c .before .t .given .1) (c .before .before .before .before .pre .cells))
+    (λ c. search needs)
+    (λ c n.
+    let d = c .before .before in
+    let k = d .before .before .before in
+    let t = k .before .before .before .t2 .given in
+    got-paints _ (t .1) (foreground (point (t .0 .0 .a) (t .0 .0 .b)) _ (k .colour .ensures) (d .dot-at .ensures))))

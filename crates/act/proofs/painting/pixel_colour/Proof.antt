@@ -1,0 +1,13 @@
+-- `pixel_colour`: the colour is the operand's low 8 bits.
+use borrow.Author.Needs.{needs}
+use Rattle.act.proofs.Handing.{passed-paints, got-paints}
+use Rattle.act.proofs.painting.pixel_colour.Statement.{statement}
+use Rattle.act.proofs.painting.pixel_colour.Tie as tie
+
+pub pixel-colour-spec : {M : Type 1} → statement M
+pixel-colour-spec =
+    tie.close (tie.spec
+    (λ c. search needs) (λ c. search needs) (λ c. search needs) (λ c κs. search needs)
+    (λ c n. passed-paints _ (c .before .t .given .1) (c .before .before .before .before .pre .cells))
+    (λ c. search needs)
+    (λ c n. got-paints _ (c .before .before .before .before .before .before .before .t2 .given .1) (c .before .before .dot-at .ensures)))

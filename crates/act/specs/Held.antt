@@ -1,0 +1,60 @@
+-- The registers as the program lends them: numbers in cells, coordinates in points.
+use Prim.Native.Nat.{ℕ, _%_, _<_}
+use mathlib.Core.Path.{_≡_}
+use mathlib.Core.List.{List, [], _∷_}
+use lib.ListN.{length, getD}
+use lib.IntN.{ℤ, pos}
+use Rattle.raster.specs.declared.dots.Dot.{Dot}
+use Rattle.raster.specs.declared.frame.Bounds.{Bounds}
+use Rattle.raster.specs.declared.frame.Window.{Window}
+use Rattle.rules.specs.declared.environment.Registers.{Registers}
+use Rattle.rules.specs.Environment.{Env, view}
+use Rattle.rules.specs.Operands.{at}
+
+-- coordinate i
+abbrev pub coordinate : List ℤ → ℕ → ℤ
+coordinate ps i = getD ps i (pos 0)
+
+-- cells: counter, the two values last compared, depth, mode, colour, state; points: position, window
+abbrev pub registers : List ℕ → List ℤ → Registers
+registers cs ps =
+    record {
+      position = record { x = coordinate ps 0; y = coordinate ps 1 };
+      window = record { x0 = coordinate ps 2; y0 = coordinate ps 3; x1 = coordinate ps 4; y1 = coordinate ps 5 };
+      mode = at cs 4;
+      first = at cs 1;
+      second = at cs 2;
+      counter = record { 0 = at cs 0 };
+      depth = at cs 3;
+      colour = at cs 5 % 256;
+      state = at cs 6 % 256;
+    }
+
+-- registers, spread over them; colour and state are bytes
+pub record Spread (r : Registers) (cs : List ℕ) : Type 0 where
+  pub cells : cs ≡ r .counter .0 ∷ r .first ∷ r .second ∷ r .depth ∷ r .mode ∷ r .colour ∷ r .state ∷ []
+  pub colour : r .colour < 256
+  pub state : r .state < 256
+
+abbrev pub points : Registers → List ℤ
+points r = r .position .x ∷ r .position .y ∷ r .window .x0 ∷ r .window .y0 ∷ r .window .x1 ∷ r .window .y1 ∷ []
+
+-- the environment that all of it stands for
+abbrev pub look : Bounds → List ℕ → List ℤ → List ℕ → List ℕ → Env
+look b cs ps vs st = view b (registers cs ps) vs st
+
+-- as many as there are registers
+abbrev pub Cells : List ℕ → Type 0
+Cells cs = length cs ≡ 7
+
+abbrev pub Points : List ℤ → Type 0
+Points ps = length ps ≡ 6
+
+-- cells, or points, that show the environment with one thing changed, whatever else it holds
+pub record Recelled (f : Env → Env) (cs cs' : List ℕ) : Type 0 where
+  pub full : Cells cs'
+  pub shows : (b : Bounds) (ps : List ℤ) (vs st : List ℕ) → look b cs' ps vs st ≡ f (look b cs ps vs st)
+
+pub record Repointed (f : Env → Env) (ps ps' : List ℤ) : Type 0 where
+  pub full : Points ps'
+  pub shows : (b : Bounds) (cs vs st : List ℕ) → look b cs ps' vs st ≡ f (look b cs ps vs st)

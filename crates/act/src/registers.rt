@@ -1,0 +1,189 @@
+// The registers that opcodes change, lent as two arrays.
+// Cells: 0 counter, 1 and 2 the values last compared, 3 depth, 4 clip mode, 5 colour, 6 state. Points: 0 and 1 position, 2 to 5 window.
+use numbers::place::WordIndex;
+use raster::dots::Dot;
+use raster::frame::Window;
+use rules::environment::Registers;
+ghost use mathlib.Core.Path.{_≡_};
+ghost use mathlib.Core.List.{List};
+ghost use Prim.Native.Nat.{ℕ, _%_};
+ghost use lib.IntN.{ℤ};
+ghost use Rattle.raster.specs.declared.frame.Bounds.{Bounds};
+ghost use Rattle.rules.specs.Environment.{goto, compared, clipped, coloured, turned, stacked, moved, windowed, stateOf, firsts};
+ghost use Rattle.rules.specs.Operands.{at};
+ghost use Rattle.act.specs.Held as Held;
+ghost use Rattle.act.specs.Held.{registers, look, Cells, Points, Recelled, Repointed};
+
+// Spread over the two arrays.
+pub fn cells_of(r: Registers) -> [u32; 7]
+    ensures { λ c. ⌜ Held.Spread r c ⌝ }
+{
+    [
+        r.counter.0,
+        r.first,
+        r.second,
+        r.depth,
+        r.mode,
+        r.colour as u32,
+        r.state as u32,
+    ]
+}
+
+pub fn points_of(r: Registers) -> [i32; 6]
+    ensures { λ p. ⌜ p ≡ Held.points r ⌝ }
+{
+    let p = r.position;
+    let w = r.window;
+    [p.x, p.y, w.x0, w.y0, w.x1, w.y1]
+}
+
+// Out of the two arrays again.
+pub fn gathered(cells: &[u32; 7], points: &[i32; 6]) -> Registers
+    ensures { λ r. ⌜ r ≡ registers (now (cells .entry)) (now (points .entry)) ⌝ }
+{
+    Registers {
+        position: position(points),
+        window: window(points),
+        mode: mode(cells),
+        first: first(cells),
+        second: second(cells),
+        counter: counter(cells),
+        depth: depth(cells),
+        colour: colour(cells),
+        state: state(cells),
+    }
+}
+
+pub fn counter(cells: &[u32; 7]) -> WordIndex
+    ensures { λ r. ⌜ r .0 ≡ at (now (cells .entry)) 0 ⌝ }
+{
+    WordIndex(cells[0])
+}
+
+// The last thing that an opcode does.
+pub fn go_to(cells: &mut [u32; 7], i: WordIndex) -> u8
+    requires { ⌜ Cells (now cells) ⌝ }
+    ensures { λ q. ⌜ (q ≡ 0) × Recelled (goto (i .0)) (now (cells .entry)) (now (cells .exit)) ⌝ }
+{
+    cells[0] = i.0;
+    0
+}
+
+pub fn first(cells: &[u32; 7]) -> u32
+    ensures { λ r. ⌜ r ≡ at (now (cells .entry)) 1 ⌝ }
+{
+    cells[1]
+}
+
+pub fn second(cells: &[u32; 7]) -> u32
+    ensures { λ r. ⌜ r ≡ at (now (cells .entry)) 2 ⌝ }
+{
+    cells[2]
+}
+
+pub fn keep_compared(cells: &mut [u32; 7], first: u32, second: u32)
+    requires { ⌜ Cells (now cells) ⌝ }
+    ensures { λ _. ⌜ Recelled (compared first second) (now (cells .entry)) (now (cells .exit)) ⌝ }
+{
+    cells[1] = first;
+    cells[2] = second;
+}
+
+pub fn depth(cells: &[u32; 7]) -> u32
+    ensures { λ r. ⌜ r ≡ at (now (cells .entry)) 3 ⌝ }
+{
+    cells[3]
+}
+
+pub fn set_depth(cells: &mut [u32; 7], n: u32)
+    requires { ⌜ Cells (now cells) ⌝ }
+    ensures { λ _.
+        ⌜ Cells (now (cells .exit))
+        × ((b : Bounds) (ps : List ℤ) (vs st : List ℕ)
+        → look b (now (cells .exit)) ps vs st ≡ stacked (firsts n st) (look b (now (cells .entry)) ps vs st)) ⌝ }
+{
+    cells[3] = n;
+}
+
+pub fn mode(cells: &[u32; 7]) -> u32
+    ensures { λ r. ⌜ r ≡ at (now (cells .entry)) 4 ⌝ }
+{
+    cells[4]
+}
+
+pub fn set_mode(cells: &mut [u32; 7], n: u32)
+    requires { ⌜ Cells (now cells) ⌝ }
+    ensures { λ _. ⌜ Recelled (clipped n) (now (cells .entry)) (now (cells .exit)) ⌝ }
+{
+    cells[4] = n;
+}
+
+pub fn colour(cells: &[u32; 7]) -> u8
+    ensures { λ r. ⌜ r ≡ at (now (cells .entry)) 5 % 256 ⌝ }
+{
+    (cells[5] % 256) as u8
+}
+
+pub fn set_colour(cells: &mut [u32; 7], c: u8)
+    requires { ⌜ Cells (now cells) ⌝ }
+    ensures { λ _. ⌜ Recelled (coloured c) (now (cells .entry)) (now (cells .exit)) ⌝ }
+{
+    cells[5] = c as u32;
+}
+
+pub fn state(cells: &[u32; 7]) -> u8
+    ensures { λ r. ⌜ r ≡ at (now (cells .entry)) 6 % 256 ⌝ }
+{
+    (cells[6] % 256) as u8
+}
+
+pub fn set_state(cells: &mut [u32; 7], n: u8)
+    requires { ⌜ Cells (now cells) ⌝ }
+    ensures { λ _. ⌜ Recelled (turned (stateOf n)) (now (cells .entry)) (now (cells .exit)) ⌝ }
+{
+    cells[6] = n as u32;
+}
+
+pub fn position(points: &[i32; 6]) -> Dot
+    ensures { λ p. ⌜ ((cs : List ℕ) → p ≡ registers cs (now (points .entry)) .position) ⌝ }
+{
+    Dot {
+        x: points[0],
+        y: points[1],
+    }
+}
+
+pub fn set_position(points: &mut [i32; 6], p: Dot)
+    requires { ⌜ Points (now points) ⌝ }
+    ensures { λ _. ⌜ Repointed (moved p) (now (points .entry)) (now (points .exit)) ⌝ }
+{
+    let x = p.x;
+    let y = p.y;
+    points[0] = x;
+    points[1] = y;
+}
+
+pub fn window(points: &[i32; 6]) -> Window
+    ensures { λ w. ⌜ ((cs : List ℕ) → w ≡ registers cs (now (points .entry)) .window) ⌝ }
+{
+    Window {
+        x0: points[2],
+        y0: points[3],
+        x1: points[4],
+        y1: points[5],
+    }
+}
+
+pub fn set_window(points: &mut [i32; 6], w: Window)
+    requires { ⌜ Points (now points) ⌝ }
+    ensures { λ _. ⌜ Repointed (windowed w) (now (points .entry)) (now (points .exit)) ⌝ }
+{
+    let x0 = w.x0;
+    let y0 = w.y0;
+    let x1 = w.x1;
+    let y1 = w.y1;
+    points[2] = x0;
+    points[3] = y0;
+    points[4] = x1;
+    points[5] = y1;
+}
