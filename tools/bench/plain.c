@@ -11,7 +11,6 @@ struct machine {
     size_t words;
     uint8_t *screen;
     struct afgis_env *env;
-    struct area area;
 };
 
 static int32_t larger(int32_t a, int32_t b)
@@ -24,7 +23,7 @@ static int32_t smaller(int32_t a, int32_t b)
     return a < b ? a : b;
 }
 
-/* None of the opcodes here changes it. */
+/* Worked out for each opcode that paints: one of another kind may have changed it. */
 static struct area drawable(const struct afgis_env *env)
 {
     struct area area = { (int32_t)env->left, (int32_t)env->top, (int32_t)env->right, (int32_t)env->bottom };
@@ -38,9 +37,9 @@ static struct area drawable(const struct afgis_env *env)
     return area;
 }
 
-static inline void paint(const struct machine *m, int32_t x, int32_t y, uint8_t colour)
+static inline void paint(const struct machine *m, struct area area, int32_t x, int32_t y, uint8_t colour)
 {
-    if (x >= m->area.left && x <= m->area.right && y >= m->area.top && y <= m->area.bottom)
+    if (x >= area.left && x <= area.right && y >= area.top && y <= area.bottom)
         m->screen[(uint32_t)y * m->env->width + (uint32_t)x] = colour;
 }
 
@@ -56,9 +55,10 @@ static void paint_line(const struct machine *m, int32_t x0, int32_t y0, int32_t 
     int32_t short_side = x_is_long ? down : across;
     int32_t error = long_side;
     uint8_t colour = m->env->colour;
+    struct area area = drawable(m->env);
 
     for (int32_t k = 0; k <= long_side; k++) {
-        paint(m, x0, y0, colour);
+        paint(m, area, x0, y0, colour);
         error += 2 * short_side;
         if (error >= 2 * long_side) {
             error -= 2 * long_side;
@@ -72,10 +72,12 @@ static void paint_line(const struct machine *m, int32_t x0, int32_t y0, int32_t 
 
 static void clear(const struct machine *m, uint8_t colour)
 {
-    for (int32_t y = m->area.top; y <= m->area.bottom; y++)
-        if (m->area.left <= m->area.right)
-            memset(m->screen + (uint32_t)y * m->env->width + (uint32_t)m->area.left, colour,
-                   (size_t)(m->area.right - m->area.left + 1));
+    struct area area = drawable(m->env);
+
+    for (int32_t y = area.top; y <= area.bottom; y++)
+        if (area.left <= area.right)
+            memset(m->screen + (uint32_t)y * m->env->width + (uint32_t)area.left, colour,
+                   (size_t)(area.right - area.left + 1));
 }
 
 static int32_t long_at(const uint16_t *word)
@@ -157,7 +159,7 @@ static inline int carry_out(struct machine *m, uint32_t *counter)
     case 0x009E:
         if (left < 3)
             return 22;
-        paint(m, (int16_t)word[1], (int16_t)word[2], env->colour);
+        paint(m, drawable(env), (int16_t)word[1], (int16_t)word[2], env->colour);
         *counter += 3;
         return 0;
     case 0x010C:
@@ -176,7 +178,7 @@ static inline int carry_out(struct machine *m, uint32_t *counter)
 struct afgis_answer plain_run(const uint16_t *list, size_t words, uint8_t *screen, size_t bytes,
                               struct afgis_env *env, uint32_t budget)
 {
-    struct machine m = { list, words, screen, env, drawable(env) };
+    struct machine m = { list, words, screen, env };
     struct afgis_answer answer = { 1, 0 };
     uint32_t counter = env->counter;
 
