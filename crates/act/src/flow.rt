@@ -1,4 +1,5 @@
 // Jumps, calls, returns and the end of the list.
+use crate::registers::Cells;
 use crate::registers::depth;
 use crate::registers::first;
 use crate::registers::go_to;
@@ -56,7 +57,7 @@ fn condition_of(k: u32, first: u32, second: u32) -> Condition
 }
 
 // A jump on condition k: one not taken does not look at its target.
-fn jump_to(k: u32, t: Target, next: WordIndex, cells: &mut [u32; 7]) -> u8
+fn jump_to(k: u32, t: Target, next: WordIndex, cells: &mut Cells) -> u8
     requires { ⌜ Cells (now cells) ⌝ }
     ensures { λ q. ⌜ Turns q (does (jumps k t) next) (now (cells .entry)) (now (cells .exit)) ⌝ }
 {
@@ -71,7 +72,7 @@ fn jump_to(k: u32, t: Target, next: WordIndex, cells: &mut [u32; 7]) -> u8
     }
 }
 
-pub fn jump(t: Taken, count: u32, cells: &mut [u32; 7]) -> u8
+pub fn jump(t: Taken, count: u32, cells: &mut Cells) -> u8
     requires { ⌜ Cells (now cells) ⌝ }
     ensures { λ q. ⌜ Turns q (answers t (λ o. rule Op.Jump o count)) (now (cells .entry)) (now (cells .exit)) ⌝ }
 {
@@ -81,7 +82,7 @@ pub fn jump(t: Taken, count: u32, cells: &mut [u32; 7]) -> u8
     }
 }
 
-pub fn jump_by(t: Taken, count: u32, cells: &mut [u32; 7]) -> u8
+pub fn jump_by(t: Taken, count: u32, cells: &mut Cells) -> u8
     requires { ⌜ Cells (now cells) ⌝ }
     ensures { λ q. ⌜ Turns q (answers t (λ o. rule Op.JumpBy o count)) (now (cells .entry)) (now (cells .exit)) ⌝ }
 {
@@ -92,7 +93,7 @@ pub fn jump_by(t: Taken, count: u32, cells: &mut [u32; 7]) -> u8
 }
 
 // A call: the return index is the next opcode's.
-fn call_to(t: Target, next: WordIndex, cells: &mut [u32; 7], stack: &mut [u32; 16]) -> u8
+fn call_to(t: Target, next: WordIndex, cells: &mut Cells, stack: &mut [u32; 16]) -> u8
     requires { ⌜ Stacked (now cells) (now stack) ⌝ }
     ensures { λ q. ⌜ Stacks q (does (calls t) next) (now (cells .entry)) (now (cells .exit)) (now (stack .entry)) (now (stack .exit)) ⌝ }
 {
@@ -111,7 +112,7 @@ fn call_to(t: Target, next: WordIndex, cells: &mut [u32; 7], stack: &mut [u32; 1
     }
 }
 
-pub fn call(t: Taken, count: u32, cells: &mut [u32; 7], stack: &mut [u32; 16]) -> u8
+pub fn call(t: Taken, count: u32, cells: &mut Cells, stack: &mut [u32; 16]) -> u8
     requires { ⌜ Stacked (now cells) (now stack) ⌝ }
     ensures { λ q. ⌜ Stacks q (answers t (λ o. rule Op.Call o count)) (now (cells .entry)) (now (cells .exit)) (now (stack .entry)) (now (stack .exit)) ⌝ }
 {
@@ -121,7 +122,7 @@ pub fn call(t: Taken, count: u32, cells: &mut [u32; 7], stack: &mut [u32; 16]) -
     }
 }
 
-pub fn call_by(t: Taken, count: u32, cells: &mut [u32; 7], stack: &mut [u32; 16]) -> u8
+pub fn call_by(t: Taken, count: u32, cells: &mut Cells, stack: &mut [u32; 16]) -> u8
     requires { ⌜ Stacked (now cells) (now stack) ⌝ }
     ensures { λ q. ⌜ Stacks q (answers t (λ o. rule Op.CallBy o count)) (now (cells .entry)) (now (cells .exit)) (now (stack .entry)) (now (stack .exit)) ⌝ }
 {
@@ -132,7 +133,7 @@ pub fn call_by(t: Taken, count: u32, cells: &mut [u32; 7], stack: &mut [u32; 16]
 }
 
 // To the last return stacked, untested.
-fn back(cells: &mut [u32; 7], stack: &[u32; 16]) -> u8
+fn back(cells: &mut Cells, stack: &[u32; 16]) -> u8
     requires { ⌜ Stacked (now cells) (now stack) ⌝ }
     ensures { λ q.
         ⌜ ((o : Operands) (n : ℕ) (next : WordIndex)
@@ -147,7 +148,7 @@ fn back(cells: &mut [u32; 7], stack: &[u32; 16]) -> u8
     go_to(cells, WordIndex(stack[at]))
 }
 
-pub fn come_back(t: Taken, cells: &mut [u32; 7], stack: &[u32; 16]) -> u8
+pub fn come_back(t: Taken, cells: &mut Cells, stack: &[u32; 16]) -> u8
     requires { ⌜ Stacked (now cells) (now stack) ⌝ }
     ensures { λ q. ⌜ ((n : ℕ) → Stacks q (answers t (λ o. rule Op.Return o n)) (now (cells .entry)) (now (cells .exit)) (now (stack .entry)) (now (stack .entry))) ⌝ }
 {
@@ -157,7 +158,7 @@ pub fn come_back(t: Taken, cells: &mut [u32; 7], stack: &[u32; 16]) -> u8
     }
 }
 
-pub fn noop(t: Taken, cells: &mut [u32; 7]) -> u8
+pub fn noop(t: Taken, cells: &mut Cells) -> u8
     requires { ⌜ Cells (now cells) ⌝ }
     ensures { λ q. ⌜ ((n : ℕ) → Turns q (answers t (λ o. rule Op.Noop o n)) (now (cells .entry)) (now (cells .exit))) ⌝ }
 {
@@ -167,7 +168,7 @@ pub fn noop(t: Taken, cells: &mut [u32; 7]) -> u8
     }
 }
 
-pub fn end(t: Taken, cells: &mut [u32; 7]) -> u8
+pub fn end(t: Taken, cells: &mut Cells) -> u8
     requires { ⌜ Cells (now cells) ⌝ }
     ensures { λ q. ⌜ ((n : ℕ) → Turns q (answers t (λ o. rule Op.End o n)) (now (cells .entry)) (now (cells .exit))) ⌝ }
 {

@@ -2,6 +2,8 @@
 use crate::point::Point;
 use crate::point::point_by;
 use crate::point::point_of;
+use crate::registers::Cells;
+use crate::registers::Points;
 use crate::registers::colour;
 use crate::registers::go_to;
 use crate::registers::mode;
@@ -30,7 +32,7 @@ ghost use Rattle.act.specs.Shown.{does, answers};
 ghost use Rattle.act.specs.Contracts.{Paints, Draws, Drawable, Near, frameOf};
 
 // Screen, pane, mode and window: what may be drawn on.
-fn frame(b: Bounds, cells: &[u32; 7], points: &[i32; 6]) -> Frame
+fn frame(b: Bounds, cells: &Cells, points: &Points) -> Frame
     ensures { λ f. ⌜ f ≡ frameOf b (registers (now (cells .entry)) (now (points .entry))) ⌝ }
 {
     Frame {
@@ -47,8 +49,8 @@ fn dot_at(
     c: u8,
     next: WordIndex,
     b: Bounds,
-    cells: &mut [u32; 7],
-    points: &[i32; 6],
+    cells: &mut Cells,
+    points: &Points,
     screen: &mut [u8],
 ) -> u8
     requires { ⌜ Drawable b (now cells) (now points) (now screen) ⌝ }
@@ -61,7 +63,7 @@ fn dot_at(
     go_to(cells, next)
 }
 
-pub fn pixel(t: Taken, b: Bounds, cells: &mut [u32; 7], points: &[i32; 6], screen: &mut [u8]) -> u8
+pub fn pixel(t: Taken, b: Bounds, cells: &mut Cells, points: &Points, screen: &mut [u8]) -> u8
     requires { ⌜ Drawable b (now cells) (now points) (now screen) ⌝ }
     ensures { λ q. ⌜ ((n : ℕ) → Paints q (answers t (λ o. rule Op.Pixel o n)) b (now (cells .entry)) (now (cells .exit)) (now (points .entry)) (now (screen .entry)) (now (screen .exit))) ⌝ }
 {
@@ -77,8 +79,8 @@ pub fn pixel(t: Taken, b: Bounds, cells: &mut [u32; 7], points: &[i32; 6], scree
 pub fn pixel_colour(
     t: Taken,
     b: Bounds,
-    cells: &mut [u32; 7],
-    points: &[i32; 6],
+    cells: &mut Cells,
+    points: &Points,
     screen: &mut [u8],
 ) -> u8
     requires { ⌜ Drawable b (now cells) (now points) (now screen) ⌝ }
@@ -94,7 +96,7 @@ pub fn pixel_colour(
 }
 
 // A line in the foreground colour.
-fn stroke(p: Dot, q: Dot, b: Bounds, cells: &[u32; 7], points: &[i32; 6], screen: &mut [u8])
+fn stroke(p: Dot, q: Dot, b: Bounds, cells: &Cells, points: &Points, screen: &mut [u8])
     requires { ⌜ Drawable b (now cells) (now points) (now screen) ⌝ }
     requires { ⌜ Near p × Near q ⌝ }
     ensures { λ _.
@@ -109,7 +111,7 @@ fn stroke(p: Dot, q: Dot, b: Bounds, cells: &[u32; 7], points: &[i32; 6], screen
     );
 }
 
-pub fn line(t: Taken, b: Bounds, cells: &mut [u32; 7], points: &[i32; 6], screen: &mut [u8]) -> u8
+pub fn line(t: Taken, b: Bounds, cells: &mut Cells, points: &Points, screen: &mut [u8]) -> u8
     requires { ⌜ Drawable b (now cells) (now points) (now screen) ⌝ }
     ensures { λ q. ⌜ ((n : ℕ) → Paints q (answers t (λ o. rule Op.Line o n)) b (now (cells .entry)) (now (cells .exit)) (now (points .entry)) (now (screen .entry)) (now (screen .exit))) ⌝ }
 {
@@ -136,8 +138,8 @@ fn draw_to(
     q: Dot,
     next: WordIndex,
     b: Bounds,
-    cells: &mut [u32; 7],
-    points: &mut [i32; 6],
+    cells: &mut Cells,
+    points: &mut Points,
     screen: &mut [u8],
 ) -> u8
     requires { ⌜ Drawable b (now cells) (now points) (now screen) × Near q ⌝ }
@@ -149,13 +151,7 @@ fn draw_to(
     go_to(cells, next)
 }
 
-pub fn line_to(
-    t: Taken,
-    b: Bounds,
-    cells: &mut [u32; 7],
-    points: &mut [i32; 6],
-    screen: &mut [u8],
-) -> u8
+pub fn line_to(t: Taken, b: Bounds, cells: &mut Cells, points: &mut Points, screen: &mut [u8]) -> u8
     requires { ⌜ Drawable b (now cells) (now points) (now screen) ⌝ }
     ensures { λ q. ⌜ ((n : ℕ) → Draws q (answers t (λ o. rule Op.LineTo o n)) b (now (cells .entry)) (now (cells .exit)) (now (points .entry)) (now (points .exit)) (now (screen .entry)) (now (screen .exit))) ⌝ }
 {
@@ -173,13 +169,7 @@ pub fn line_to(
     }
 }
 
-pub fn line_by(
-    t: Taken,
-    b: Bounds,
-    cells: &mut [u32; 7],
-    points: &mut [i32; 6],
-    screen: &mut [u8],
-) -> u8
+pub fn line_by(t: Taken, b: Bounds, cells: &mut Cells, points: &mut Points, screen: &mut [u8]) -> u8
     requires { ⌜ Drawable b (now cells) (now points) (now screen) ⌝ }
     ensures { λ q. ⌜ ((n : ℕ) → Draws q (answers t (λ o. rule Op.LineBy o n)) b (now (cells .entry)) (now (cells .exit)) (now (points .entry)) (now (points .exit)) (now (screen .entry)) (now (screen .exit))) ⌝ }
 {
@@ -199,7 +189,7 @@ pub fn line_by(
 }
 
 // Every drawable pixel; the wait word is ignored.
-pub fn clear(t: Taken, b: Bounds, cells: &mut [u32; 7], points: &[i32; 6], screen: &mut [u8]) -> u8
+pub fn clear(t: Taken, b: Bounds, cells: &mut Cells, points: &Points, screen: &mut [u8]) -> u8
     requires { ⌜ Drawable b (now cells) (now points) (now screen) ⌝ }
     ensures { λ q. ⌜ ((n : ℕ) → Paints q (answers t (λ o. rule Op.Clear o n)) b (now (cells .entry)) (now (cells .exit)) (now (points .entry)) (now (screen .entry)) (now (screen .exit))) ⌝ }
 {

@@ -2,6 +2,8 @@
 use crate::point::Point;
 use crate::point::point_by;
 use crate::point::point_of;
+use crate::registers::Cells;
+use crate::registers::Points;
 use crate::registers::go_to;
 use crate::registers::position;
 use crate::registers::set_colour;
@@ -20,7 +22,7 @@ ghost use Rattle.act.specs.Held.{Cells, Points};
 ghost use Rattle.act.specs.Shown.{answers};
 ghost use Rattle.act.specs.Contracts.{Turns, Moves};
 
-pub fn clip_mode(t: Taken, cells: &mut [u32; 7]) -> u8
+pub fn clip_mode(t: Taken, cells: &mut Cells) -> u8
     requires { ⌜ Cells (now cells) ⌝ }
     ensures { λ q. ⌜ ((n : ℕ) → Turns q (answers t (λ o. rule Op.ClipMode o n)) (now (cells .entry)) (now (cells .exit))) ⌝ }
 {
@@ -48,7 +50,7 @@ fn window(p: Dot, q: Dot) -> Window
     }
 }
 
-pub fn clip_window(t: Taken, cells: &mut [u32; 7], points: &mut [i32; 6]) -> u8
+pub fn clip_window(t: Taken, cells: &mut Cells, points: &mut Points) -> u8
     requires { ⌜ Cells (now cells) × Points (now points) ⌝ }
     ensures { λ q. ⌜ ((n : ℕ) → Moves q (answers t (λ o. rule Op.ClipWindow o n)) (now (cells .entry)) (now (cells .exit)) (now (points .entry)) (now (points .exit))) ⌝ }
 {
@@ -68,7 +70,7 @@ pub fn clip_window(t: Taken, cells: &mut [u32; 7], points: &mut [i32; 6]) -> u8
 }
 
 // The low 8 bits.
-pub fn colour(t: Taken, cells: &mut [u32; 7]) -> u8
+pub fn colour(t: Taken, cells: &mut Cells) -> u8
     requires { ⌜ Cells (now cells) ⌝ }
     ensures { λ q. ⌜ ((n : ℕ) → Turns q (answers t (λ o. rule Op.Colour o n)) (now (cells .entry)) (now (cells .exit))) ⌝ }
 {
@@ -81,7 +83,7 @@ pub fn colour(t: Taken, cells: &mut [u32; 7]) -> u8
     }
 }
 
-pub fn move_to(t: Taken, cells: &mut [u32; 7], points: &mut [i32; 6]) -> u8
+pub fn move_to(t: Taken, cells: &mut Cells, points: &mut Points) -> u8
     requires { ⌜ Cells (now cells) × Points (now points) ⌝ }
     ensures { λ q. ⌜ ((n : ℕ) → Moves q (answers t (λ o. rule Op.MoveTo o n)) (now (cells .entry)) (now (cells .exit)) (now (points .entry)) (now (points .exit))) ⌝ }
 {
@@ -97,7 +99,7 @@ pub fn move_to(t: Taken, cells: &mut [u32; 7], points: &mut [i32; 6]) -> u8
     }
 }
 
-pub fn move_by(t: Taken, cells: &mut [u32; 7], points: &mut [i32; 6]) -> u8
+pub fn move_by(t: Taken, cells: &mut Cells, points: &mut Points) -> u8
     requires { ⌜ Cells (now cells) × Points (now points) ⌝ }
     ensures { λ q. ⌜ ((n : ℕ) → Moves q (answers t (λ o. rule Op.MoveBy o n)) (now (cells .entry)) (now (cells .exit)) (now (points .entry)) (now (points .exit))) ⌝ }
 {

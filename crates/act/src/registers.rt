@@ -1,5 +1,4 @@
 // The registers that opcodes change, lent as two arrays.
-// Cells: 0 counter, 1 and 2 the values last compared, 3 depth, 4 clip mode, 5 colour, 6 state. Points: 0 and 1 position, 2 to 5 window.
 use numbers::place::WordIndex;
 use raster::dots::Dot;
 use raster::frame::Window;
@@ -14,8 +13,14 @@ ghost use Rattle.rules.specs.Operands.{at};
 ghost use Rattle.act.specs.Held as Held;
 ghost use Rattle.act.specs.Held.{registers, look, Cells, Points, Recelled, Repointed};
 
+// 0 counter, 1 and 2 the values last compared, 3 depth, 4 clip mode, 5 colour, 6 state.
+pub type Cells = [u32; 7];
+
+// 0 and 1 position, 2 to 5 window.
+pub type Points = [i32; 6];
+
 // Spread over the two arrays.
-pub fn cells_of(r: Registers) -> [u32; 7]
+pub fn cells_of(r: Registers) -> Cells
     ensures { λ c. ⌜ Held.Spread r c ⌝ }
 {
     [
@@ -29,7 +34,7 @@ pub fn cells_of(r: Registers) -> [u32; 7]
     ]
 }
 
-pub fn points_of(r: Registers) -> [i32; 6]
+pub fn points_of(r: Registers) -> Points
     ensures { λ p. ⌜ p ≡ Held.points r ⌝ }
 {
     let p = r.position;
@@ -38,7 +43,7 @@ pub fn points_of(r: Registers) -> [i32; 6]
 }
 
 // Out of the two arrays again.
-pub fn gathered(cells: &[u32; 7], points: &[i32; 6]) -> Registers
+pub fn gathered(cells: &Cells, points: &Points) -> Registers
     ensures { λ r. ⌜ r ≡ registers (now (cells .entry)) (now (points .entry)) ⌝ }
 {
     Registers {
@@ -54,14 +59,14 @@ pub fn gathered(cells: &[u32; 7], points: &[i32; 6]) -> Registers
     }
 }
 
-pub fn counter(cells: &[u32; 7]) -> WordIndex
+pub fn counter(cells: &Cells) -> WordIndex
     ensures { λ r. ⌜ r .0 ≡ at (now (cells .entry)) 0 ⌝ }
 {
     WordIndex(cells[0])
 }
 
 // The last thing that an opcode does.
-pub fn go_to(cells: &mut [u32; 7], i: WordIndex) -> u8
+pub fn go_to(cells: &mut Cells, i: WordIndex) -> u8
     requires { ⌜ Cells (now cells) ⌝ }
     ensures { λ q. ⌜ (q ≡ 0) × Recelled (goto (i .0)) (now (cells .entry)) (now (cells .exit)) ⌝ }
 {
@@ -69,19 +74,19 @@ pub fn go_to(cells: &mut [u32; 7], i: WordIndex) -> u8
     0
 }
 
-pub fn first(cells: &[u32; 7]) -> u32
+pub fn first(cells: &Cells) -> u32
     ensures { λ r. ⌜ r ≡ at (now (cells .entry)) 1 ⌝ }
 {
     cells[1]
 }
 
-pub fn second(cells: &[u32; 7]) -> u32
+pub fn second(cells: &Cells) -> u32
     ensures { λ r. ⌜ r ≡ at (now (cells .entry)) 2 ⌝ }
 {
     cells[2]
 }
 
-pub fn keep_compared(cells: &mut [u32; 7], first: u32, second: u32)
+pub fn keep_compared(cells: &mut Cells, first: u32, second: u32)
     requires { ⌜ Cells (now cells) ⌝ }
     ensures { λ _. ⌜ Recelled (compared first second) (now (cells .entry)) (now (cells .exit)) ⌝ }
 {
@@ -89,13 +94,13 @@ pub fn keep_compared(cells: &mut [u32; 7], first: u32, second: u32)
     cells[2] = second;
 }
 
-pub fn depth(cells: &[u32; 7]) -> u32
+pub fn depth(cells: &Cells) -> u32
     ensures { λ r. ⌜ r ≡ at (now (cells .entry)) 3 ⌝ }
 {
     cells[3]
 }
 
-pub fn set_depth(cells: &mut [u32; 7], n: u32)
+pub fn set_depth(cells: &mut Cells, n: u32)
     requires { ⌜ Cells (now cells) ⌝ }
     ensures { λ _.
         ⌜ Cells (now (cells .exit))
@@ -105,46 +110,46 @@ pub fn set_depth(cells: &mut [u32; 7], n: u32)
     cells[3] = n;
 }
 
-pub fn mode(cells: &[u32; 7]) -> u32
+pub fn mode(cells: &Cells) -> u32
     ensures { λ r. ⌜ r ≡ at (now (cells .entry)) 4 ⌝ }
 {
     cells[4]
 }
 
-pub fn set_mode(cells: &mut [u32; 7], n: u32)
+pub fn set_mode(cells: &mut Cells, n: u32)
     requires { ⌜ Cells (now cells) ⌝ }
     ensures { λ _. ⌜ Recelled (clipped n) (now (cells .entry)) (now (cells .exit)) ⌝ }
 {
     cells[4] = n;
 }
 
-pub fn colour(cells: &[u32; 7]) -> u8
+pub fn colour(cells: &Cells) -> u8
     ensures { λ r. ⌜ r ≡ at (now (cells .entry)) 5 % 256 ⌝ }
 {
     (cells[5] % 256) as u8
 }
 
-pub fn set_colour(cells: &mut [u32; 7], c: u8)
+pub fn set_colour(cells: &mut Cells, c: u8)
     requires { ⌜ Cells (now cells) ⌝ }
     ensures { λ _. ⌜ Recelled (coloured c) (now (cells .entry)) (now (cells .exit)) ⌝ }
 {
     cells[5] = c as u32;
 }
 
-pub fn state(cells: &[u32; 7]) -> u8
+pub fn state(cells: &Cells) -> u8
     ensures { λ r. ⌜ r ≡ at (now (cells .entry)) 6 % 256 ⌝ }
 {
     (cells[6] % 256) as u8
 }
 
-pub fn set_state(cells: &mut [u32; 7], n: u8)
+pub fn set_state(cells: &mut Cells, n: u8)
     requires { ⌜ Cells (now cells) ⌝ }
     ensures { λ _. ⌜ Recelled (turned (stateOf n)) (now (cells .entry)) (now (cells .exit)) ⌝ }
 {
     cells[6] = n as u32;
 }
 
-pub fn position(points: &[i32; 6]) -> Dot
+pub fn position(points: &Points) -> Dot
     ensures { λ p. ⌜ ((cs : List ℕ) → p ≡ registers cs (now (points .entry)) .position) ⌝ }
 {
     Dot {
@@ -153,7 +158,7 @@ pub fn position(points: &[i32; 6]) -> Dot
     }
 }
 
-pub fn set_position(points: &mut [i32; 6], p: Dot)
+pub fn set_position(points: &mut Points, p: Dot)
     requires { ⌜ Points (now points) ⌝ }
     ensures { λ _. ⌜ Repointed (moved p) (now (points .entry)) (now (points .exit)) ⌝ }
 {
@@ -163,7 +168,7 @@ pub fn set_position(points: &mut [i32; 6], p: Dot)
     points[1] = y;
 }
 
-pub fn window(points: &[i32; 6]) -> Window
+pub fn window(points: &Points) -> Window
     ensures { λ w. ⌜ ((cs : List ℕ) → w ≡ registers cs (now (points .entry)) .window) ⌝ }
 {
     Window {
@@ -174,7 +179,7 @@ pub fn window(points: &[i32; 6]) -> Window
     }
 }
 
-pub fn set_window(points: &mut [i32; 6], w: Window)
+pub fn set_window(points: &mut Points, w: Window)
     requires { ⌜ Points (now points) ⌝ }
     ensures { λ _. ⌜ Repointed (windowed w) (now (points .entry)) (now (points .exit)) ⌝ }
 {

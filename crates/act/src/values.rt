@@ -1,4 +1,5 @@
 // Variables: loading, arithmetic, logic, and the two values compared.
+use crate::registers::Cells;
 use crate::registers::go_to;
 use crate::registers::keep_compared;
 use fetch::source::Taken;
@@ -28,7 +29,7 @@ fn old(o: Operands, vars: &[u32; 64]) -> u32
 }
 
 // A value into Vd.
-fn put(o: Operands, next: WordIndex, v: u32, cells: &mut [u32; 7], vars: &mut [u32; 64]) -> u8
+fn put(o: Operands, next: WordIndex, v: u32, cells: &mut Cells, vars: &mut [u32; 64]) -> u8
     requires { ⌜ (o .dest .0 < 64) × Cells (now cells) ⌝ }
     ensures { λ q. ⌜ Sets q (does (gives v o) next) (now (cells .entry)) (now (cells .exit)) (now (vars .entry)) (now (vars .exit)) ⌝ }
 {
@@ -37,7 +38,7 @@ fn put(o: Operands, next: WordIndex, v: u32, cells: &mut [u32; 7], vars: &mut [u
     go_to(cells, next)
 }
 
-pub fn load(t: Taken, cells: &mut [u32; 7], vars: &mut [u32; 64]) -> u8
+pub fn load(t: Taken, cells: &mut Cells, vars: &mut [u32; 64]) -> u8
     requires { ⌜ Named t × Cells (now cells) ⌝ }
     ensures { λ q. ⌜ ((n : ℕ) → Sets q (answers t (λ o. rule Op.Load o n)) (now (cells .entry)) (now (cells .exit)) (now (vars .entry)) (now (vars .exit))) ⌝ }
 {
@@ -47,7 +48,7 @@ pub fn load(t: Taken, cells: &mut [u32; 7], vars: &mut [u32; 64]) -> u8
     }
 }
 
-pub fn add(t: Taken, cells: &mut [u32; 7], vars: &mut [u32; 64]) -> u8
+pub fn add(t: Taken, cells: &mut Cells, vars: &mut [u32; 64]) -> u8
     requires { ⌜ Named t × Cells (now cells) ⌝ }
     ensures { λ q. ⌜ ((n : ℕ) → Sets q (answers t (λ o. rule Op.Add o n)) (now (cells .entry)) (now (cells .exit)) (now (vars .entry)) (now (vars .exit))) ⌝ }
 {
@@ -60,7 +61,7 @@ pub fn add(t: Taken, cells: &mut [u32; 7], vars: &mut [u32; 64]) -> u8
     }
 }
 
-pub fn and(t: Taken, cells: &mut [u32; 7], vars: &mut [u32; 64]) -> u8
+pub fn and(t: Taken, cells: &mut Cells, vars: &mut [u32; 64]) -> u8
     requires { ⌜ Named t × Cells (now cells) ⌝ }
     ensures { λ q. ⌜ ((n : ℕ) → Sets q (answers t (λ o. rule Op.And o n)) (now (cells .entry)) (now (cells .exit)) (now (vars .entry)) (now (vars .exit))) ⌝ }
 {
@@ -73,7 +74,7 @@ pub fn and(t: Taken, cells: &mut [u32; 7], vars: &mut [u32; 64]) -> u8
     }
 }
 
-pub fn or(t: Taken, cells: &mut [u32; 7], vars: &mut [u32; 64]) -> u8
+pub fn or(t: Taken, cells: &mut Cells, vars: &mut [u32; 64]) -> u8
     requires { ⌜ Named t × Cells (now cells) ⌝ }
     ensures { λ q. ⌜ ((n : ℕ) → Sets q (answers t (λ o. rule Op.Or o n)) (now (cells .entry)) (now (cells .exit)) (now (vars .entry)) (now (vars .exit))) ⌝ }
 {
@@ -86,7 +87,7 @@ pub fn or(t: Taken, cells: &mut [u32; 7], vars: &mut [u32; 64]) -> u8
     }
 }
 
-pub fn multiply(t: Taken, cells: &mut [u32; 7], vars: &mut [u32; 64]) -> u8
+pub fn multiply(t: Taken, cells: &mut Cells, vars: &mut [u32; 64]) -> u8
     requires { ⌜ Named t × Cells (now cells) ⌝ }
     ensures { λ q. ⌜ ((n : ℕ) → Sets q (answers t (λ o. rule Op.Multiply o n)) (now (cells .entry)) (now (cells .exit)) (now (vars .entry)) (now (vars .exit))) ⌝ }
 {
@@ -99,7 +100,7 @@ pub fn multiply(t: Taken, cells: &mut [u32; 7], vars: &mut [u32; 64]) -> u8
     }
 }
 
-pub fn increment(t: Taken, cells: &mut [u32; 7], vars: &mut [u32; 64]) -> u8
+pub fn increment(t: Taken, cells: &mut Cells, vars: &mut [u32; 64]) -> u8
     requires { ⌜ Named t × Cells (now cells) ⌝ }
     ensures { λ q. ⌜ ((n : ℕ) → Sets q (answers t (λ o. rule Op.Increment o n)) (now (cells .entry)) (now (cells .exit)) (now (vars .entry)) (now (vars .exit))) ⌝ }
 {
@@ -112,7 +113,7 @@ pub fn increment(t: Taken, cells: &mut [u32; 7], vars: &mut [u32; 64]) -> u8
     }
 }
 
-pub fn decrement(t: Taken, cells: &mut [u32; 7], vars: &mut [u32; 64]) -> u8
+pub fn decrement(t: Taken, cells: &mut Cells, vars: &mut [u32; 64]) -> u8
     requires { ⌜ Named t × Cells (now cells) ⌝ }
     ensures { λ q. ⌜ ((n : ℕ) → Sets q (answers t (λ o. rule Op.Decrement o n)) (now (cells .entry)) (now (cells .exit)) (now (vars .entry)) (now (vars .exit))) ⌝ }
 {
@@ -130,7 +131,7 @@ fn put_unless_zero(
     o: Operands,
     next: WordIndex,
     x: Division,
-    cells: &mut [u32; 7],
+    cells: &mut Cells,
     vars: &mut [u32; 64],
 ) -> u8
     requires { ⌜ (o .dest .0 < 64) × Cells (now cells) ⌝ }
@@ -144,7 +145,7 @@ fn put_unless_zero(
     }
 }
 
-pub fn divide(t: Taken, cells: &mut [u32; 7], vars: &mut [u32; 64]) -> u8
+pub fn divide(t: Taken, cells: &mut Cells, vars: &mut [u32; 64]) -> u8
     requires { ⌜ Named t × Cells (now cells) ⌝ }
     ensures { λ q. ⌜ ((n : ℕ) → Sets q (answers t (λ o. rule Op.Divide o n)) (now (cells .entry)) (now (cells .exit)) (now (vars .entry)) (now (vars .exit))) ⌝ }
 {
@@ -157,7 +158,7 @@ pub fn divide(t: Taken, cells: &mut [u32; 7], vars: &mut [u32; 64]) -> u8
     }
 }
 
-pub fn remainder(t: Taken, cells: &mut [u32; 7], vars: &mut [u32; 64]) -> u8
+pub fn remainder(t: Taken, cells: &mut Cells, vars: &mut [u32; 64]) -> u8
     requires { ⌜ Named t × Cells (now cells) ⌝ }
     ensures { λ q. ⌜ ((n : ℕ) → Sets q (answers t (λ o. rule Op.Remainder o n)) (now (cells .entry)) (now (cells .exit)) (now (vars .entry)) (now (vars .exit))) ⌝ }
 {
@@ -171,7 +172,7 @@ pub fn remainder(t: Taken, cells: &mut [u32; 7], vars: &mut [u32; 64]) -> u8
 }
 
 // Vd's value is kept first, the other second.
-pub fn compare(t: Taken, cells: &mut [u32; 7], vars: &[u32; 64]) -> u8
+pub fn compare(t: Taken, cells: &mut Cells, vars: &[u32; 64]) -> u8
     requires { ⌜ Named t × Cells (now cells) ⌝ }
     ensures { λ q. ⌜ ((n : ℕ) → Sets q (answers t (λ o. rule Op.Compare o n)) (now (cells .entry)) (now (cells .exit)) (now (vars .entry)) (now (vars .entry))) ⌝ }
 {

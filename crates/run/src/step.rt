@@ -2,6 +2,8 @@
 use act::flow;
 use act::painting;
 use act::pen;
+use act::registers::Cells;
+use act::registers::Points;
 use act::registers::counter;
 use act::values;
 use fetch::source::from;
@@ -21,8 +23,8 @@ ghost use Rattle.run.specs.Turns.{Ready, Steps};
 pub fn step(
     words: &[u16],
     b: Bounds,
-    cells: &mut [u32; 7],
-    points: &mut [i32; 6],
+    cells: &mut Cells,
+    points: &mut Points,
     vars: &mut [u32; 64],
     stack: &mut [u32; 16],
     screen: &mut [u8],

@@ -1,5 +1,7 @@
 // One opcode after the other: the state comes first, then the budget, then the opcode.
 use crate::step::step;
+use act::registers::Cells;
+use act::registers::Points;
 use act::registers::set_state;
 use act::registers::state;
 use raster::frame::Bounds;
@@ -13,8 +15,8 @@ ghost use Rattle.run.specs.Turns.{Ready, left};
 pub fn turns(
     words: &[u16],
     b: Bounds,
-    cells: &mut [u32; 7],
-    points: &mut [i32; 6],
+    cells: &mut Cells,
+    points: &mut Points,
     vars: &mut [u32; 64],
     stack: &mut [u32; 16],
     screen: &mut [u8],
