@@ -114,7 +114,9 @@ fn call_to(t: Target, next: WordIndex, cells: &mut Cells, stack: &mut [u32; 16])
 
 pub fn call(t: Taken, count: u32, cells: &mut Cells, stack: &mut [u32; 16]) -> u8
     requires { ⌜ Stacked (now cells) (now stack) ⌝ }
-    ensures { λ q. ⌜ Stacks q (answers t (λ o. rule Op.Call o count)) (now (cells .entry)) (now (cells .exit)) (now (stack .entry)) (now (stack .exit)) ⌝ }
+    ensures { λ q.
+        ⌜ Stacks q (answers t (λ o. rule Op.Call o count))
+        (now (cells .entry)) (now (cells .exit)) (now (stack .entry)) (now (stack .exit)) ⌝ }
 {
     match t {
         Taken::Refused(n) => n,
@@ -124,7 +126,9 @@ pub fn call(t: Taken, count: u32, cells: &mut Cells, stack: &mut [u32; 16]) -> u
 
 pub fn call_by(t: Taken, count: u32, cells: &mut Cells, stack: &mut [u32; 16]) -> u8
     requires { ⌜ Stacked (now cells) (now stack) ⌝ }
-    ensures { λ q. ⌜ Stacks q (answers t (λ o. rule Op.CallBy o count)) (now (cells .entry)) (now (cells .exit)) (now (stack .entry)) (now (stack .exit)) ⌝ }
+    ensures { λ q.
+        ⌜ Stacks q (answers t (λ o. rule Op.CallBy o count))
+        (now (cells .entry)) (now (cells .exit)) (now (stack .entry)) (now (stack .exit)) ⌝ }
 {
     match t {
         Taken::Refused(n) => n,
@@ -150,7 +154,9 @@ fn back(cells: &mut Cells, stack: &[u32; 16]) -> u8
 
 pub fn come_back(t: Taken, cells: &mut Cells, stack: &[u32; 16]) -> u8
     requires { ⌜ Stacked (now cells) (now stack) ⌝ }
-    ensures { λ q. ⌜ ((n : ℕ) → Stacks q (answers t (λ o. rule Op.Return o n)) (now (cells .entry)) (now (cells .exit)) (now (stack .entry)) (now (stack .entry))) ⌝ }
+    ensures { λ q.
+        ⌜ ((n : ℕ) → Stacks q (answers t (λ o. rule Op.Return o n))
+        (now (cells .entry)) (now (cells .exit)) (now (stack .entry)) (now (stack .entry))) ⌝ }
 {
     match t {
         Taken::Refused(n) => n,

@@ -54,7 +54,9 @@ fn dot_at(
     screen: &mut [u8],
 ) -> u8
     requires { ⌜ Drawable b (now cells) (now points) (now screen) ⌝ }
-    ensures { λ q. ⌜ Paints q (does (dots (Opcodes.point x y) c) next) b (now (cells .entry)) (now (cells .exit)) (now (points .entry)) (now (screen .entry)) (now (screen .exit)) ⌝ }
+    ensures { λ q.
+        ⌜ Paints q (does (dots (Opcodes.point x y) c) next) b
+        (now (cells .entry)) (now (cells .exit)) (now (points .entry)) (now (screen .entry)) (now (screen .exit)) ⌝ }
 {
     let Point::At(p) = point_of(x, y) else {
         return 25;
@@ -65,7 +67,9 @@ fn dot_at(
 
 pub fn pixel(t: Taken, b: Bounds, cells: &mut Cells, points: &Points, screen: &mut [u8]) -> u8
     requires { ⌜ Drawable b (now cells) (now points) (now screen) ⌝ }
-    ensures { λ q. ⌜ ((n : ℕ) → Paints q (answers t (λ o. rule Op.Pixel o n)) b (now (cells .entry)) (now (cells .exit)) (now (points .entry)) (now (screen .entry)) (now (screen .exit))) ⌝ }
+    ensures { λ q.
+        ⌜ ((n : ℕ) → Paints q (answers t (λ o. rule Op.Pixel o n)) b
+        (now (cells .entry)) (now (cells .exit)) (now (points .entry)) (now (screen .entry)) (now (screen .exit))) ⌝ }
 {
     match t {
         Taken::Refused(n) => n,
@@ -84,7 +88,9 @@ pub fn pixel_colour(
     screen: &mut [u8],
 ) -> u8
     requires { ⌜ Drawable b (now cells) (now points) (now screen) ⌝ }
-    ensures { λ q. ⌜ ((n : ℕ) → Paints q (answers t (λ o. rule Op.PixelColour o n)) b (now (cells .entry)) (now (cells .exit)) (now (points .entry)) (now (screen .entry)) (now (screen .exit))) ⌝ }
+    ensures { λ q.
+        ⌜ ((n : ℕ) → Paints q (answers t (λ o. rule Op.PixelColour o n)) b
+        (now (cells .entry)) (now (cells .exit)) (now (points .entry)) (now (screen .entry)) (now (screen .exit))) ⌝ }
 {
     match t {
         Taken::Refused(n) => n,
@@ -101,7 +107,8 @@ fn stroke(p: Dot, q: Dot, b: Bounds, cells: &Cells, points: &Points, screen: &mu
     requires { ⌜ Near p × Near q ⌝ }
     ensures { λ _.
         ⌜ now (screen .exit)
-        ≡ paint (frameOf b (registers (now (cells .entry)) (now (points .entry)))) (Lines.line (record { from = p; to = q })) (registers (now (cells .entry)) (now (points .entry)) .colour) (now (screen .entry)) ⌝ }
+        ≡ paint (frameOf b (registers (now (cells .entry)) (now (points .entry)))) (Lines.line (record { from = p; to = q }))
+        (registers (now (cells .entry)) (now (points .entry)) .colour) (now (screen .entry)) ⌝ }
 {
     draw_line(
         screen,
@@ -113,7 +120,9 @@ fn stroke(p: Dot, q: Dot, b: Bounds, cells: &Cells, points: &Points, screen: &mu
 
 pub fn line(t: Taken, b: Bounds, cells: &mut Cells, points: &Points, screen: &mut [u8]) -> u8
     requires { ⌜ Drawable b (now cells) (now points) (now screen) ⌝ }
-    ensures { λ q. ⌜ ((n : ℕ) → Paints q (answers t (λ o. rule Op.Line o n)) b (now (cells .entry)) (now (cells .exit)) (now (points .entry)) (now (screen .entry)) (now (screen .exit))) ⌝ }
+    ensures { λ q.
+        ⌜ ((n : ℕ) → Paints q (answers t (λ o. rule Op.Line o n)) b
+        (now (cells .entry)) (now (cells .exit)) (now (points .entry)) (now (screen .entry)) (now (screen .exit))) ⌝ }
 {
     match t {
         Taken::Refused(n) => n,
@@ -143,7 +152,9 @@ fn draw_to(
     screen: &mut [u8],
 ) -> u8
     requires { ⌜ Drawable b (now cells) (now points) (now screen) × Near q ⌝ }
-    ensures { λ r. ⌜ Draws r (does (λ e. paints (Lines.line (record { from = e .position; to = q })) (e .colour) (moved q e)) next) b (now (cells .entry)) (now (cells .exit)) (now (points .entry)) (now (points .exit)) (now (screen .entry)) (now (screen .exit)) ⌝ }
+    ensures { λ r.
+        ⌜ Draws r (does (λ e. paints (Lines.line (record { from = e .position; to = q })) (e .colour) (moved q e)) next) b
+        (now (cells .entry)) (now (cells .exit)) (now (points .entry)) (now (points .exit)) (now (screen .entry)) (now (screen .exit)) ⌝ }
 {
     let here = position(&*points);
     stroke(here, q, b, &*cells, &*points, screen);
@@ -153,7 +164,9 @@ fn draw_to(
 
 pub fn line_to(t: Taken, b: Bounds, cells: &mut Cells, points: &mut Points, screen: &mut [u8]) -> u8
     requires { ⌜ Drawable b (now cells) (now points) (now screen) ⌝ }
-    ensures { λ q. ⌜ ((n : ℕ) → Draws q (answers t (λ o. rule Op.LineTo o n)) b (now (cells .entry)) (now (cells .exit)) (now (points .entry)) (now (points .exit)) (now (screen .entry)) (now (screen .exit))) ⌝ }
+    ensures { λ q.
+        ⌜ ((n : ℕ) → Draws q (answers t (λ o. rule Op.LineTo o n)) b
+        (now (cells .entry)) (now (cells .exit)) (now (points .entry)) (now (points .exit)) (now (screen .entry)) (now (screen .exit))) ⌝ }
 {
     match t {
         Taken::Refused(n) => n,
@@ -171,7 +184,9 @@ pub fn line_to(t: Taken, b: Bounds, cells: &mut Cells, points: &mut Points, scre
 
 pub fn line_by(t: Taken, b: Bounds, cells: &mut Cells, points: &mut Points, screen: &mut [u8]) -> u8
     requires { ⌜ Drawable b (now cells) (now points) (now screen) ⌝ }
-    ensures { λ q. ⌜ ((n : ℕ) → Draws q (answers t (λ o. rule Op.LineBy o n)) b (now (cells .entry)) (now (cells .exit)) (now (points .entry)) (now (points .exit)) (now (screen .entry)) (now (screen .exit))) ⌝ }
+    ensures { λ q.
+        ⌜ ((n : ℕ) → Draws q (answers t (λ o. rule Op.LineBy o n)) b
+        (now (cells .entry)) (now (cells .exit)) (now (points .entry)) (now (points .exit)) (now (screen .entry)) (now (screen .exit))) ⌝ }
 {
     match t {
         Taken::Refused(n) => n,
@@ -191,7 +206,9 @@ pub fn line_by(t: Taken, b: Bounds, cells: &mut Cells, points: &mut Points, scre
 // Every drawable pixel; the wait word is ignored.
 pub fn clear(t: Taken, b: Bounds, cells: &mut Cells, points: &Points, screen: &mut [u8]) -> u8
     requires { ⌜ Drawable b (now cells) (now points) (now screen) ⌝ }
-    ensures { λ q. ⌜ ((n : ℕ) → Paints q (answers t (λ o. rule Op.Clear o n)) b (now (cells .entry)) (now (cells .exit)) (now (points .entry)) (now (screen .entry)) (now (screen .exit))) ⌝ }
+    ensures { λ q.
+        ⌜ ((n : ℕ) → Paints q (answers t (λ o. rule Op.Clear o n)) b
+        (now (cells .entry)) (now (cells .exit)) (now (points .entry)) (now (screen .entry)) (now (screen .exit))) ⌝ }
 {
     match t {
         Taken::Refused(n) => n,

@@ -52,7 +52,9 @@ fn window(p: Dot, q: Dot) -> Window
 
 pub fn clip_window(t: Taken, cells: &mut Cells, points: &mut Points) -> u8
     requires { ⌜ Cells (now cells) × Points (now points) ⌝ }
-    ensures { λ q. ⌜ ((n : ℕ) → Moves q (answers t (λ o. rule Op.ClipWindow o n)) (now (cells .entry)) (now (cells .exit)) (now (points .entry)) (now (points .exit))) ⌝ }
+    ensures { λ q.
+        ⌜ ((n : ℕ) → Moves q (answers t (λ o. rule Op.ClipWindow o n))
+        (now (cells .entry)) (now (cells .exit)) (now (points .entry)) (now (points .exit))) ⌝ }
 {
     match t {
         Taken::Refused(n) => n,
@@ -85,7 +87,9 @@ pub fn colour(t: Taken, cells: &mut Cells) -> u8
 
 pub fn move_to(t: Taken, cells: &mut Cells, points: &mut Points) -> u8
     requires { ⌜ Cells (now cells) × Points (now points) ⌝ }
-    ensures { λ q. ⌜ ((n : ℕ) → Moves q (answers t (λ o. rule Op.MoveTo o n)) (now (cells .entry)) (now (cells .exit)) (now (points .entry)) (now (points .exit))) ⌝ }
+    ensures { λ q.
+        ⌜ ((n : ℕ) → Moves q (answers t (λ o. rule Op.MoveTo o n))
+        (now (cells .entry)) (now (cells .exit)) (now (points .entry)) (now (points .exit))) ⌝ }
 {
     match t {
         Taken::Refused(n) => n,
@@ -101,7 +105,9 @@ pub fn move_to(t: Taken, cells: &mut Cells, points: &mut Points) -> u8
 
 pub fn move_by(t: Taken, cells: &mut Cells, points: &mut Points) -> u8
     requires { ⌜ Cells (now cells) × Points (now points) ⌝ }
-    ensures { λ q. ⌜ ((n : ℕ) → Moves q (answers t (λ o. rule Op.MoveBy o n)) (now (cells .entry)) (now (cells .exit)) (now (points .entry)) (now (points .exit))) ⌝ }
+    ensures { λ q.
+        ⌜ ((n : ℕ) → Moves q (answers t (λ o. rule Op.MoveBy o n))
+        (now (cells .entry)) (now (cells .exit)) (now (points .entry)) (now (points .exit))) ⌝ }
 {
     match t {
         Taken::Refused(n) => n,

@@ -40,7 +40,9 @@ fn put(o: Operands, next: WordIndex, v: u32, cells: &mut Cells, vars: &mut [u32;
 
 pub fn load(t: Taken, cells: &mut Cells, vars: &mut [u32; 64]) -> u8
     requires { ⌜ Named t × Cells (now cells) ⌝ }
-    ensures { λ q. ⌜ ((n : ℕ) → Sets q (answers t (λ o. rule Op.Load o n)) (now (cells .entry)) (now (cells .exit)) (now (vars .entry)) (now (vars .exit))) ⌝ }
+    ensures { λ q.
+        ⌜ ((n : ℕ) → Sets q (answers t (λ o. rule Op.Load o n))
+        (now (cells .entry)) (now (cells .exit)) (now (vars .entry)) (now (vars .exit))) ⌝ }
 {
     match t {
         Taken::Refused(n) => n,
@@ -50,7 +52,9 @@ pub fn load(t: Taken, cells: &mut Cells, vars: &mut [u32; 64]) -> u8
 
 pub fn add(t: Taken, cells: &mut Cells, vars: &mut [u32; 64]) -> u8
     requires { ⌜ Named t × Cells (now cells) ⌝ }
-    ensures { λ q. ⌜ ((n : ℕ) → Sets q (answers t (λ o. rule Op.Add o n)) (now (cells .entry)) (now (cells .exit)) (now (vars .entry)) (now (vars .exit))) ⌝ }
+    ensures { λ q.
+        ⌜ ((n : ℕ) → Sets q (answers t (λ o. rule Op.Add o n))
+        (now (cells .entry)) (now (cells .exit)) (now (vars .entry)) (now (vars .exit))) ⌝ }
 {
     match t {
         Taken::Refused(n) => n,
@@ -63,7 +67,9 @@ pub fn add(t: Taken, cells: &mut Cells, vars: &mut [u32; 64]) -> u8
 
 pub fn and(t: Taken, cells: &mut Cells, vars: &mut [u32; 64]) -> u8
     requires { ⌜ Named t × Cells (now cells) ⌝ }
-    ensures { λ q. ⌜ ((n : ℕ) → Sets q (answers t (λ o. rule Op.And o n)) (now (cells .entry)) (now (cells .exit)) (now (vars .entry)) (now (vars .exit))) ⌝ }
+    ensures { λ q.
+        ⌜ ((n : ℕ) → Sets q (answers t (λ o. rule Op.And o n))
+        (now (cells .entry)) (now (cells .exit)) (now (vars .entry)) (now (vars .exit))) ⌝ }
 {
     match t {
         Taken::Refused(n) => n,
@@ -76,7 +82,9 @@ pub fn and(t: Taken, cells: &mut Cells, vars: &mut [u32; 64]) -> u8
 
 pub fn or(t: Taken, cells: &mut Cells, vars: &mut [u32; 64]) -> u8
     requires { ⌜ Named t × Cells (now cells) ⌝ }
-    ensures { λ q. ⌜ ((n : ℕ) → Sets q (answers t (λ o. rule Op.Or o n)) (now (cells .entry)) (now (cells .exit)) (now (vars .entry)) (now (vars .exit))) ⌝ }
+    ensures { λ q.
+        ⌜ ((n : ℕ) → Sets q (answers t (λ o. rule Op.Or o n))
+        (now (cells .entry)) (now (cells .exit)) (now (vars .entry)) (now (vars .exit))) ⌝ }
 {
     match t {
         Taken::Refused(n) => n,
@@ -89,7 +97,9 @@ pub fn or(t: Taken, cells: &mut Cells, vars: &mut [u32; 64]) -> u8
 
 pub fn multiply(t: Taken, cells: &mut Cells, vars: &mut [u32; 64]) -> u8
     requires { ⌜ Named t × Cells (now cells) ⌝ }
-    ensures { λ q. ⌜ ((n : ℕ) → Sets q (answers t (λ o. rule Op.Multiply o n)) (now (cells .entry)) (now (cells .exit)) (now (vars .entry)) (now (vars .exit))) ⌝ }
+    ensures { λ q.
+        ⌜ ((n : ℕ) → Sets q (answers t (λ o. rule Op.Multiply o n))
+        (now (cells .entry)) (now (cells .exit)) (now (vars .entry)) (now (vars .exit))) ⌝ }
 {
     match t {
         Taken::Refused(n) => n,
@@ -102,7 +112,9 @@ pub fn multiply(t: Taken, cells: &mut Cells, vars: &mut [u32; 64]) -> u8
 
 pub fn increment(t: Taken, cells: &mut Cells, vars: &mut [u32; 64]) -> u8
     requires { ⌜ Named t × Cells (now cells) ⌝ }
-    ensures { λ q. ⌜ ((n : ℕ) → Sets q (answers t (λ o. rule Op.Increment o n)) (now (cells .entry)) (now (cells .exit)) (now (vars .entry)) (now (vars .exit))) ⌝ }
+    ensures { λ q.
+        ⌜ ((n : ℕ) → Sets q (answers t (λ o. rule Op.Increment o n))
+        (now (cells .entry)) (now (cells .exit)) (now (vars .entry)) (now (vars .exit))) ⌝ }
 {
     match t {
         Taken::Refused(n) => n,
@@ -115,7 +127,9 @@ pub fn increment(t: Taken, cells: &mut Cells, vars: &mut [u32; 64]) -> u8
 
 pub fn decrement(t: Taken, cells: &mut Cells, vars: &mut [u32; 64]) -> u8
     requires { ⌜ Named t × Cells (now cells) ⌝ }
-    ensures { λ q. ⌜ ((n : ℕ) → Sets q (answers t (λ o. rule Op.Decrement o n)) (now (cells .entry)) (now (cells .exit)) (now (vars .entry)) (now (vars .exit))) ⌝ }
+    ensures { λ q.
+        ⌜ ((n : ℕ) → Sets q (answers t (λ o. rule Op.Decrement o n))
+        (now (cells .entry)) (now (cells .exit)) (now (vars .entry)) (now (vars .exit))) ⌝ }
 {
     match t {
         Taken::Refused(n) => n,
@@ -147,7 +161,9 @@ fn put_unless_zero(
 
 pub fn divide(t: Taken, cells: &mut Cells, vars: &mut [u32; 64]) -> u8
     requires { ⌜ Named t × Cells (now cells) ⌝ }
-    ensures { λ q. ⌜ ((n : ℕ) → Sets q (answers t (λ o. rule Op.Divide o n)) (now (cells .entry)) (now (cells .exit)) (now (vars .entry)) (now (vars .exit))) ⌝ }
+    ensures { λ q.
+        ⌜ ((n : ℕ) → Sets q (answers t (λ o. rule Op.Divide o n))
+        (now (cells .entry)) (now (cells .exit)) (now (vars .entry)) (now (vars .exit))) ⌝ }
 {
     match t {
         Taken::Refused(n) => n,
@@ -160,7 +176,9 @@ pub fn divide(t: Taken, cells: &mut Cells, vars: &mut [u32; 64]) -> u8
 
 pub fn remainder(t: Taken, cells: &mut Cells, vars: &mut [u32; 64]) -> u8
     requires { ⌜ Named t × Cells (now cells) ⌝ }
-    ensures { λ q. ⌜ ((n : ℕ) → Sets q (answers t (λ o. rule Op.Remainder o n)) (now (cells .entry)) (now (cells .exit)) (now (vars .entry)) (now (vars .exit))) ⌝ }
+    ensures { λ q.
+        ⌜ ((n : ℕ) → Sets q (answers t (λ o. rule Op.Remainder o n))
+        (now (cells .entry)) (now (cells .exit)) (now (vars .entry)) (now (vars .exit))) ⌝ }
 {
     match t {
         Taken::Refused(n) => n,
@@ -174,7 +192,9 @@ pub fn remainder(t: Taken, cells: &mut Cells, vars: &mut [u32; 64]) -> u8
 // Vd's value is kept first, the other second.
 pub fn compare(t: Taken, cells: &mut Cells, vars: &[u32; 64]) -> u8
     requires { ⌜ Named t × Cells (now cells) ⌝ }
-    ensures { λ q. ⌜ ((n : ℕ) → Sets q (answers t (λ o. rule Op.Compare o n)) (now (cells .entry)) (now (cells .exit)) (now (vars .entry)) (now (vars .entry))) ⌝ }
+    ensures { λ q.
+        ⌜ ((n : ℕ) → Sets q (answers t (λ o. rule Op.Compare o n))
+        (now (cells .entry)) (now (cells .exit)) (now (vars .entry)) (now (vars .entry))) ⌝ }
 {
     match t {
         Taken::Refused(n) => n,

@@ -25,7 +25,8 @@ pub fn turns(
     requires { ⌜ Ready (now words) b (now cells) (now points) (now vars) (now stack) (now screen) ⌝ }
     ensures { λ k.
         ⌜ left (look b (now (cells .exit)) (now (points .exit)) (now (vars .exit)) (now (stack .exit))) (now (screen .exit)) k
-        ≡ runs (afgis (now (words .entry))) budget (look b (now (cells .entry)) (now (points .entry)) (now (vars .entry)) (now (stack .entry))) (now (screen .entry)) 0 ⌝ }
+        ≡ runs (afgis (now (words .entry))) budget
+        (look b (now (cells .entry)) (now (points .entry)) (now (vars .entry)) (now (stack .entry))) (now (screen .entry)) 0 ⌝ }
 {
     let mut steps: u32 = 0;
     while steps < budget {
