@@ -1,5 +1,5 @@
 # The benchmark for a machine that the kit does not compile for: the module that rattle hands its clang, turned to the
-# machine and compiled there, and the C sides by the same clang. Sourced by run behind tools/c/kit.sh, which has `out`.
+# machine and compiled there, and the C sides by the same clang. Sourced by run, which has set `out`, behind tools/c/kit.sh.
 # MACHINE, CC and START name another machine's kind, linker and emulator, to try this without one.
 machine=${MACHINE:-$(uname -m)}
 target=$machine-unknown-linux-gnu
