@@ -17,17 +17,13 @@ use Rattle.rules.specs.Environment.{Env, firsts, goto, stacked}
 use Rattle.rules.specs.Operands.{at}
 use Rattle.rules.specs.Opcodes.{calls, rule}
 use Rattle.rules.proofs.StackLaws.{length-firsts, push, pop, each}
-use Rattle.act.specs.Held.{look, Cells, Recelled}
+use Rattle.act.specs.Held.{look, Recelled, Deepened}
 use Rattle.act.specs.Shown.{does}
 use Rattle.act.specs.Contracts.{Stacks, Stacked}
 use Rattle.act.proofs.Acting.{stays, turns}
 use Rattle.act.proofs.Handing.{settled}
 
--- the depth was set to n
-abbrev Deepened : ℕ → List ℕ → List ℕ → Type 0
-Deepened n cs cs' = Cells cs' × ((b : Bounds) (ps : List ℤ) (vs st : List ℕ) → look b cs' ps vs st ≡ stacked (firsts n st) (look b cs ps vs st))
-
--- and the counter to i
+-- the depth was set to n, and then the counter to i
 then-to : (n : ℕ) {i : ℕ} (cs : List ℕ) {cs' cs'' : List ℕ} → Deepened n cs cs' → Recelled (goto i) cs' cs'' → (b : Bounds) (ps : List ℤ) (vs st : List ℕ)
     → look b cs'' ps vs st ≡ goto i (stacked (firsts n st) (look b cs ps vs st))
 then-to n {i} cs p g b ps vs st = g .shows b ps vs st ∙ ap (goto i) (p .1 b ps vs st)

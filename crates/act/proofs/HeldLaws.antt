@@ -7,10 +7,9 @@ use lib.ListN.{set}
 use lib.IntN.{ℤ}
 use Rattle.player.specs.declared.State.the-variants.{Ended}
 use Rattle.raster.specs.declared.dots.Dot.{Dot}
-use Rattle.raster.specs.declared.frame.Bounds.{Bounds}
 use Rattle.raster.specs.declared.frame.Window.{Window}
-use Rattle.rules.specs.Environment.{goto, compared, clipped, coloured, turned, stacked, moved, windowed, stateOf, firsts}
-use Rattle.act.specs.Held.{look, Cells, Points, Recelled, Repointed}
+use Rattle.rules.specs.Environment.{goto, compared, clipped, coloured, turned, moved, windowed, stateOf}
+use Rattle.act.specs.Held.{Cells, Points, Recelled, Repointed, Deepened}
 
 seven : (P : List ℕ → Type 0) → ((a b c d e f g : ℕ) → P (a ∷ b ∷ c ∷ d ∷ e ∷ f ∷ g ∷ [])) → (cs : List ℕ) → Cells cs → P cs
 seven P h [] l = absurd (omega (arith, l))
@@ -33,7 +32,7 @@ six P h (a ∷ b ∷ c ∷ d ∷ e ∷ []) l = absurd (omega (arith, l))
 six P h (a ∷ b ∷ c ∷ d ∷ e ∷ f ∷ []) l = h a b c d e f
 six P h (a ∷ b ∷ c ∷ d ∷ e ∷ f ∷ x ∷ xs) l = absurd (omega (arith, l))
 
-byte : (n : ℕ) → n < 256 → n % 256 ≡ n
+pub byte : (n : ℕ) → n < 256 → n % 256 ≡ n
 byte n h = omega (arith, h)
 
 module _ (cs : List ℕ) (l : Cells cs) where
@@ -44,10 +43,8 @@ module _ (cs : List ℕ) (l : Cells cs) where
   compared-set x y =
       seven (λ cs. Recelled (compared x y) cs (set (set cs 1 x) 2 y)) (λ a b c d e f g. record { full = refl; shows = λ b ps vs st. refl }) cs l
 
-  pub depth-set : (n : ℕ) → Cells (set cs 3 n) × ((b : Bounds) (ps : List ℤ) (vs st : List ℕ) → look b (set cs 3 n) ps vs st ≡ stacked (firsts n st) (look b cs ps vs st))
-  depth-set n =
-      seven (λ cs. Cells (set cs 3 n) × ((b : Bounds) (ps : List ℤ) (vs st : List ℕ) → look b (set cs 3 n) ps vs st ≡ stacked (firsts n st) (look b cs ps vs st)))
-      (λ a b c d e f g. (refl, λ b ps vs st. refl)) cs l
+  pub depth-set : (n : ℕ) → Deepened n cs (set cs 3 n)
+  depth-set n = seven (λ cs. Deepened n cs (set cs 3 n)) (λ a b c d e f g. (refl, λ b ps vs st. refl)) cs l
 
   pub mode-set : (n : ℕ) → Recelled (clipped n) cs (set cs 4 n)
   mode-set n = seven (λ cs. Recelled (clipped n) cs (set cs 4 n)) (λ a b c d e f g. record { full = refl; shows = λ b ps vs st. refl }) cs l

@@ -4,11 +4,9 @@ use mathlib.Core.Path.{_≡_}
 use mathlib.Core.List.{List, [], _∷_}
 use lib.ListN.{length, getD}
 use lib.IntN.{ℤ, pos}
-use Rattle.raster.specs.declared.dots.Dot.{Dot}
 use Rattle.raster.specs.declared.frame.Bounds.{Bounds}
-use Rattle.raster.specs.declared.frame.Window.{Window}
 use Rattle.rules.specs.declared.environment.Registers.{Registers}
-use Rattle.rules.specs.Environment.{Env, view}
+use Rattle.rules.specs.Environment.{Env, view, stacked, firsts}
 use Rattle.rules.specs.Operands.{at}
 
 -- coordinate i
@@ -58,3 +56,7 @@ pub record Recelled (f : Env → Env) (cs cs' : List ℕ) : Type 0 where
 pub record Repointed (f : Env → Env) (ps ps' : List ℤ) : Type 0 where
   pub full : Points ps'
   pub shows : (b : Bounds) (cs vs st : List ℕ) → look b cs ps' vs st ≡ f (look b cs ps vs st)
+
+-- cells with the depth n, so that the first n of the stack are stacked
+abbrev pub Deepened : ℕ → List ℕ → List ℕ → Type 0
+Deepened n cs cs' = Cells cs' × ((b : Bounds) (ps : List ℤ) (vs st : List ℕ) → look b cs' ps vs st ≡ stacked (firsts n st) (look b cs ps vs st))

@@ -6,12 +6,10 @@ use rules::environment::Registers;
 ghost use mathlib.Core.Path.{_≡_};
 ghost use mathlib.Core.List.{List};
 ghost use Prim.Native.Nat.{ℕ, _%_};
-ghost use lib.IntN.{ℤ};
-ghost use Rattle.raster.specs.declared.frame.Bounds.{Bounds};
-ghost use Rattle.rules.specs.Environment.{goto, compared, clipped, coloured, turned, stacked, moved, windowed, stateOf, firsts};
+ghost use Rattle.rules.specs.Environment.{goto, compared, clipped, coloured, turned, moved, windowed, stateOf};
 ghost use Rattle.rules.specs.Operands.{at};
 ghost use Rattle.act.specs.Held as Held;
-ghost use Rattle.act.specs.Held.{registers, look, Cells, Points, Recelled, Repointed};
+ghost use Rattle.act.specs.Held.{registers, Cells, Points, Recelled, Repointed, Deepened};
 
 // 0 counter, 1 and 2 the values last compared, 3 depth, 4 clip mode, 5 colour, 6 state.
 pub type Cells = [u32; 7];
@@ -102,10 +100,7 @@ pub fn depth(cells: &Cells) -> u32
 
 pub fn set_depth(cells: &mut Cells, n: u32)
     requires { ⌜ Cells (now cells) ⌝ }
-    ensures { λ _.
-        ⌜ Cells (now (cells .exit))
-        × ((b : Bounds) (ps : List ℤ) (vs st : List ℕ)
-        → look b (now (cells .exit)) ps vs st ≡ stacked (firsts n st) (look b (now (cells .entry)) ps vs st)) ⌝ }
+    ensures { λ _. ⌜ Deepened n (now (cells .entry)) (now (cells .exit)) ⌝ }
 {
     cells[3] = n;
 }

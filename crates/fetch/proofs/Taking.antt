@@ -12,7 +12,7 @@ use Rattle.numbers.specs.Number.{signed16, low32}
 use Rattle.rules.specs.declared.opcode.Operands.{Operands}
 use Rattle.rules.specs.Operands.{Piece, word, from, at, widths, highest, following, values, destination, gathered}
 use Rattle.fetch.specs.declared.source.Taken.the-variants.{Refused, Got}
-use Rattle.fetch.specs.Stages.{Named, ontoOf, takenOf}
+use Rattle.fetch.specs.Stages.{ontoOf, takenOf}
 
 -- ---- n variables from v on, where j are passed already
 

@@ -34,7 +34,7 @@ use Rattle.fetch.specs.declared.source.Taken.the-variants.{Refused, Got}
 use Rattle.fetch.specs.Stages.{Reaches, takenOf}
 use Rattle.fetch.proofs.Steps as Fetched
 use Rattle.act.specs.Held.{look}
-use Rattle.act.specs.Shown.{Shown, went, stayed, shown, seen, does, answers}
+use Rattle.act.specs.Shown.{went, stayed, shown, seen, does, answers}
 use Rattle.act.specs.Contracts.{Drawable, Stacked, Turns, Sets, Stacks, Moves, Paints, Draws}
 use Rattle.run.specs.Turns.{Ready, Steps, left}
 

@@ -9,7 +9,7 @@ use Rattle.rules.specs.Step.{afgis}
 use Rattle.act.specs.Held.{look}
 use Rattle.run.specs.Turns.{numberOf}
 use Rattle.run.proofs.Doors.{refused-whole, run-whole, let-in}
-use Rattle.run.proofs.Lending.{seven, six, lent, answers}
+use Rattle.run.proofs.Lending.{full-cells, full-points, lent, answers}
 use Rattle.run.proofs.run.run.Statement.{statement}
 use Rattle.run.proofs.run.run.Tie as tie
 
@@ -37,8 +37,8 @@ turns-requires c κs =
     let ps = c .before .before .before .before .before .points-of .ensures in
     record {
       few = o .few;
-      cells = seven _ cs ps;
-      points = six _ cs ps;
+      cells = full-cells _ cs ps;
+      points = full-points _ cs ps;
       size = o .size;
       ranges = ap fits (same c) ∙ o .ranges;
       full = full (d .before);
