@@ -1,13 +1,11 @@
 -- From pixels within the rectangle to `paint`: what a drawing function has to show.
-use mathlib.Core.Path.{_≡_, refl, sym, ap, ap₂, _∙_, subst}
+use mathlib.Core.Path.{_≡_, refl, sym, ap₂, _∙_, subst}
 use mathlib.Core.Bool.{Bool, true, _&&_}
 use mathlib.Core.List.{List}
 use Prim.Native.Nat.{ℕ, _/_, _%_, _<_}
 use native.Mathlib.Nat.{mod-lt, div-lt-iff-lt-mul}
 use lib.IntN.{pos}
-use lib.Dec.{ltb}
 use lib.ListN.{length}
-use borrow.Author.Tests.{lt-ltb}
 use Rattle.raster.specs.declared.dots.Dot.{Dot}
 use Rattle.raster.specs.declared.frame.Frame.{Frame}
 use Rattle.raster.specs.Shapes.{Shape, dot, all}
@@ -18,6 +16,7 @@ use Rattle.raster.specs.Rects.{pixels, inRect, rectOf}
 use Rattle.raster.proofs.Recolour.{agree}
 use Rattle.raster.proofs.Rectangles.{drawable-is}
 use Rattle.raster.proofs.Coordinates.{eq-pos}
+use Rattle.raster.proofs.Rows.{whole}
 
 pub dot-is : (d : Dot) → Coord (d .x) → Coord (d .y) → (i j : ℕ) → dot d (pos i) (pos j) ≡ dotB (spotOf d) i j
 dot-is d h k i j = ap₂ (λ (a b : Bool). a && b) (eq-pos (d .x) i (h .small)) (eq-pos (d .y) j (k .small))
@@ -37,10 +36,6 @@ module _ (f : Frame) (s : List ℕ) (h : Fitting f s) where
       let on = drawable-is f (h .sane) (k % w) (k / w) (mod-lt k (h .sane .bounds .width-from)) (in-rows k l) in
       ap₂ (λ (a b : Bool). a && b) (sym on) (sym (e (k % w) (k / w))))
 
-  -- every row of the screen
-  pub all-painted : (c : ℕ) → pixels (f .bounds .width) (λ i j. inRect (rectOf f) i j && ltb j (f .bounds .height)) c s ≡ paint f all c s
-  all-painted c =
-      let w = f .bounds .width in
-      agree (λ k. inRect (rectOf f) (k % w) (k / w) && ltb (k / w) (f .bounds .height)) (λ k. inRect (rectOf f) (k % w) (k / w) && true) c s
-      (λ k l. ap (λ (t : Bool). inRect (rectOf f) (k % w) (k / w) && t) (lt-ltb (k / w) (f .bounds .height) (in-rows k l)))
-      ∙ painted all (λ i j. true) c (λ i j. refl)
+  -- all of the rectangle
+  pub all-painted : (c : ℕ) → pixels (f .bounds .width) (inRect (rectOf f)) c s ≡ paint f all c s
+  all-painted c = sym (whole (f .bounds .width) (rectOf f) c s) ∙ painted all (λ i j. true) c (λ i j. refl)

@@ -11,5 +11,6 @@ pub mod Rectangles
 pub mod Pixels
 pub mod Sides
 pub mod Lines
+pub mod Parts
 pub mod Rows
 pub mod Drawings

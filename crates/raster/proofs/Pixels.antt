@@ -6,13 +6,13 @@ use Prim.Native.Nat.{ℕ, _+_, _-_, _*_, _/_, _%_, _<_, _≤_}
 use native.Mathlib.Omega.{arith}
 use native.Mathlib.Nat.{mul-add-mod-self-right, mul-add-div-right, mod-eq-of-lt, div-eq-of-lt, div-add-mod', add-zero}
 use native.Mathlib.Nat.{mul-le-mul-right, mul-le-mul, add-mul, one-mul}
-use lib.Dec.{T, leb, eqb, leb→le, eqb→eq}
+use lib.Dec.{T, leb, eqb, leb→le, le→leb, eqb→eq}
 use lib.ListN.{set}
 use Rattle.raster.specs.declared.moved.Spot.{Spot}
 use Rattle.raster.specs.declared.rect.Rect.{Rect}
 use Rattle.raster.specs.Moved.{dotB}
 use Rattle.raster.specs.Rects.{pixels, byteB, insideB, inRect, Room, Seen}
-use Rattle.raster.proofs.Tests.{both, left, right, four, eq→T, and-or}
+use Rattle.raster.proofs.Tests.{both, left, right, four, quad, eq→T, and-or}
 use Rattle.raster.proofs.Recolour.{one, none, agree, twice}
 
 -- ---- a byte's column and row, and the byte of a column and a row
@@ -25,15 +25,22 @@ row w x y h = mul-add-div-right (omega arith) y x ∙ ap (λ (k : ℕ). y + k) (
 pub byte : (w k : ℕ) → k / w * w + k % w ≡ k
 byte w k = div-add-mod' k w
 
+-- ---- a point within a rectangle
+module _ (r : Rect) (x y : ℕ) where
+  pub inside-is : T (insideB r x y) → (r .l ≤ x) × (x ≤ r .r) × (r .t ≤ y) × (y ≤ r .b)
+  inside-is t =
+      let q = four (leb (r .l) x) (leb x (r .r)) (leb (r .t) y) (leb y (r .b)) t in
+      (leb→le (r .l) x (q .0), leb→le x (r .r) (q .1), leb→le (r .t) y (q .2), leb→le y (r .b) (q .3))
+
+  pub is-inside : r .l ≤ x → x ≤ r .r → r .t ≤ y → y ≤ r .b → T (insideB r x y)
+  is-inside a b c d =
+      quad (leb (r .l) x) (leb x (r .r)) (leb (r .t) y) (leb y (r .b)) (le→leb (r .l) x a) (le→leb x (r .r) b) (le→leb (r .t) y c) (le→leb y (r .b) d)
+
 -- ---- a dot within a rectangle that has room in the screen
 module _ (w : ℕ) (r : Rect) (p : Spot) where
   pub seen : (s : List ℕ) → Room w r s → T (insideB r (p .x) (p .y)) → Seen w p s
   seen s h t =
-      let q = four (leb (r .l) (p .x)) (leb (p .x) (r .r)) (leb (r .t) (p .y)) (leb (p .y) (r .b)) t in
-      let x1 = leb→le (r .l) (p .x) (q .0) in
-      let x2 = leb→le (p .x) (r .r) (q .1) in
-      let y1 = leb→le (r .t) (p .y) (q .2) in
-      let y2 = leb→le (p .y) (r .b) (q .3) in
+      let q = inside-is r (p .x) (p .y) t in
       let high : p .y - 65536 ≤ 2048 = omega (arith, h .to-bottom) in
       let whole : (p .y - 65536 + 1) * w ≤ (r .b - 65535) * w = mul-le-mul-right w (omega (arith, h .from-top)) in
       let part : (p .y - 65536 + 1) * w ≡ (p .y - 65536) * w + w = add-mul (p .y - 65536) 1 w ∙ ap (λ (u : ℕ). (p .y - 65536) * w + u) (one-mul w) in

@@ -1,63 +1,82 @@
--- Laws of rows of pixels: one column more of a row, and one row more of the screen.
-use mathlib.Core.Path.{_≡_, refl, sym, subst}
-use mathlib.Core.Bool.{Bool, true, false, _||_}
+-- Row after row: a shape painted within a rectangle, one row at a time.
+use mathlib.Core.Path.{_≡_, refl, sym, ap, _∙_, subst}
+use mathlib.Core.Bool.{Bool, true, false, _&&_, _||_}
+use mathlib.Core.List.{List}
 use Prim.Native.Nat.{ℕ, _+_, _/_, _%_, _<_, _≤_}
 use native.Mathlib.Omega.{arith}
-use native.Mathlib.Nat.{mod-lt}
 use lib.Dec.{T, ltb, eqb, ltb→lt, lt→ltb, eqb→eq}
-use borrow.Author.Tests.{ltb-true, ltb-false}
-use Rattle.raster.specs.declared.moved.Spot.{Spot}
-use Rattle.raster.specs.Moved.{dotB}
-use Rattle.raster.specs.Rects.{before}
-use Rattle.raster.proofs.Tests.{same, both, left, right, or-elim, yes-or, or-yes, eq→T}
+use borrow.Author.Tests.{ltb-false}
+use Rattle.raster.specs.declared.rect.Rect.{Rect}
+use Rattle.raster.specs.Rects.{pixels, inRect}
+use Rattle.raster.specs.Parts.{rowPart}
+use Rattle.raster.proofs.Tests.{same, both, left, right, or-elim, yes-or, or-yes, eq→T, and-true, and-or, or-and, and-same}
+use Rattle.raster.proofs.Recolour.{none, agree, twice}
+use Rattle.raster.proofs.Pixels.{inside-is, is-inside}
 
--- the dot in column x of row y
-abbrev pub spot : ℕ → ℕ → Spot
-spot x y = record { x = x + 65536; y = y + 65536 }
+lt-next : (j y : ℕ) → (ltb j y || eqb j y) ≡ ltb j (y + 1)
+lt-next j y =
+    same (ltb j y || eqb j y) (ltb j (y + 1))
+    (λ t. or-elim (ltb j y) (eqb j y) t (λ u. lt→ltb j (y + 1) (omega (arith, ltb→lt j y u))) (λ u. lt→ltb j (y + 1) (omega (arith, eqb→eq j y u))))
+    (λ t. by (ltb→lt j (y + 1) t) (ltb j y) refl)
+  where
+    by : j < y + 1 → (b : Bool) → ltb j y ≡ b → T (ltb j y || eqb j y)
+    by l true q = yes-or (ltb j y) (eqb j y) (subst T (sym q) tt)
+    by l false q = or-yes (ltb j y) (eqb j y) (eq→T j y (omega (arith, ltb-false j y q)))
 
-module _ (y x i j : ℕ) where
-  to-column : T (before y x i j || dotB (spot x y) i j) → T (before y (x + 1) i j)
-  to-column t =
-      or-elim (before y x i j) (dotB (spot x y) i j) t
-      (λ u. both (eqb j y) (ltb i (x + 1)) (left (eqb j y) (ltb i x) u) (lt→ltb i (x + 1) (omega (arith, ltb→lt i x (right (eqb j y) (ltb i x) u)))))
-      (λ u.
-      let a = eqb→eq (x + 65536) (i + 65536) (left (eqb (x + 65536) (i + 65536)) (eqb (y + 65536) (j + 65536)) u) in
-      let b = eqb→eq (y + 65536) (j + 65536) (right (eqb (x + 65536) (i + 65536)) (eqb (y + 65536) (j + 65536)) u) in
-      both (eqb j y) (ltb i (x + 1)) (eq→T j y (omega arith)) (lt→ltb i (x + 1) (omega arith)))
+module _ (w : ℕ) (r : Rect) (D : ℕ → ℕ → Bool) where
+  -- the pixel is one of the shape's, in a row of r above row y
+  abbrev inAbove : ℕ → ℕ → ℕ → Bool
+  inAbove y i j = inRect r i j && (ltb (j + 65536) y && D i j)
 
-  from-column : T (before y (x + 1) i j) → T (before y x i j || dotB (spot x y) i j)
-  from-column t = by (ltb i x) refl
+  -- the screen with these painted
+  abbrev pub above : ℕ → ℕ → List ℕ → List ℕ
+  above y c s = pixels w (inAbove y) c s
+
+  pub no-row : (c : ℕ) (s : List ℕ) → s ≡ above (r .t) c s
+  no-row c s =
+      none (λ k. inAbove (r .t) (k % w) (k / w)) c s
+      (λ k _ t.
+      let j = k / w + 65536 in
+      let p = inside-is r (k % w + 65536) j (left (inRect r (k % w) (k / w)) (ltb j (r .t) && D (k % w) (k / w)) t) in
+      let q = ltb→lt j (r .t) (left (ltb j (r .t)) (D (k % w) (k / w)) (right (inRect r (k % w) (k / w)) (ltb j (r .t) && D (k % w) (k / w)) t)) in
+      omega arith)
+
+  -- R is the shape in row y of r
+  pub row-more : (R : ℕ → ℕ → Bool) (y c : ℕ) (s : List ℕ) → ((i j : ℕ) → R i j ≡ (inRect r i j && (eqb (j + 65536) y && D i j)))
+      → pixels w R c (above y c s) ≡ above (y + 1) c s
+  row-more R y c s e =
+      twice (λ k. inAbove y (k % w) (k / w)) (λ k. R (k % w) (k / w)) c s
+      ∙ agree (λ k. inAbove y (k % w) (k / w) || R (k % w) (k / w)) (λ k. inAbove (y + 1) (k % w) (k / w)) c s (λ k _. joined (k % w) (k / w))
     where
-      e : j ≡ y
-      e = eqb→eq j y (left (eqb j y) (ltb i (x + 1)) t)
+      joined : (i j : ℕ) → (inAbove y i j || R i j) ≡ inAbove (y + 1) i j
+      joined i j =
+          ap (λ (b : Bool). inAbove y i j || b) (e i j)
+          ∙ sym (and-or (inRect r i j) (ltb (j + 65536) y && D i j) (eqb (j + 65536) y && D i j))
+          ∙ ap (λ (b : Bool). inRect r i j && b) (or-and (ltb (j + 65536) y) (eqb (j + 65536) y) (D i j))
+          ∙ ap (λ (b : Bool). inRect r i j && (b && D i j)) (lt-next (j + 65536) y)
 
-      l : i < x + 1
-      l = ltb→lt i (x + 1) (right (eqb j y) (ltb i (x + 1)) t)
+  pub every-row : (y c : ℕ) (s : List ℕ) → r .b < y → above y c s ≡ pixels w (λ i j. inRect r i j && D i j) c s
+  every-row y c s l =
+      agree (λ k. inAbove y (k % w) (k / w)) (λ k. inRect r (k % w) (k / w) && D (k % w) (k / w)) c s
+      (λ k _. and-same (inRect r (k % w) (k / w)) (ltb (k / w + 65536) y && D (k % w) (k / w)) (D (k % w) (k / w))
+      (λ t. let p = inside-is r (k % w + 65536) (k / w + 65536) t in and-lt (D (k % w) (k / w)) (k / w + 65536) (omega arith)))
+    where
+      and-lt : (d : Bool) (j : ℕ) → j < y → (ltb j y && d) ≡ d
+      and-lt d j l = same (ltb j y && d) d (right (ltb j y) d) (λ t. both (ltb j y) d (lt→ltb j y l) t)
 
-      by : (b : Bool) → ltb i x ≡ b → T (before y x i j || dotB (spot x y) i j)
-      by true q = yes-or (before y x i j) (dotB (spot x y) i j) (both (eqb j y) (ltb i x) (eq→T j y e) (lt→ltb i x (ltb-true i x q)))
-      by false q =
-          let m : x ≤ i = ltb-false i x q in
-          or-yes (before y x i j) (dotB (spot x y) i j)
-          (both (eqb (x + 65536) (i + 65536)) (eqb (y + 65536) (j + 65536))
-          (eq→T (x + 65536) (i + 65536) (omega (arith, l))) (eq→T (y + 65536) (j + 65536) (omega (arith, e))))
+-- ---- every pixel as the shape
+pub whole-row : (r : Rect) (y : ℕ) → r .t ≤ y → y ≤ r .b → (i j : ℕ) → inRect (rowPart y (r .l) (r .r)) i j ≡ (inRect r i j && (eqb (j + 65536) y && true))
+whole-row r y h k i j =
+    same (inRect (rowPart y (r .l) (r .r)) i j) (inRect r i j && (eqb (j + 65536) y && true))
+    (λ t.
+    let p = inside-is (rowPart y (r .l) (r .r)) (i + 65536) (j + 65536) t in
+    both (inRect r i j) (eqb (j + 65536) y && true) (is-inside r (i + 65536) (j + 65536) (omega arith) (omega arith) (omega arith) (omega arith))
+    (both (eqb (j + 65536) y) true (eq→T (j + 65536) y (omega arith)) tt))
+    (λ t.
+    let p = inside-is r (i + 65536) (j + 65536) (left (inRect r i j) (eqb (j + 65536) y && true) t) in
+    let e = eqb→eq (j + 65536) y (left (eqb (j + 65536) y) true (right (inRect r i j) (eqb (j + 65536) y && true) t)) in
+    is-inside (rowPart y (r .l) (r .r)) (i + 65536) (j + 65536) (omega arith) (omega arith) (omega arith) (omega arith))
 
-  pub column-more : (before y x i j || dotB (spot x y) i j) ≡ before y (x + 1) i j
-  column-more = same (before y x i j || dotB (spot x y) i j) (before y (x + 1) i j) to-column from-column
-
--- every byte's column is before w
-module _ (w y k : ℕ) (h : 0 < w) where
-  to-row : T (ltb (k / w) y || before y w (k % w) (k / w)) → T (ltb (k / w) (y + 1))
-  to-row t =
-      or-elim (ltb (k / w) y) (before y w (k % w) (k / w)) t
-      (λ u. lt→ltb (k / w) (y + 1) (omega (arith, ltb→lt (k / w) y u)))
-      (λ u. lt→ltb (k / w) (y + 1) (omega (arith, eqb→eq (k / w) y (left (eqb (k / w) y) (ltb (k % w) w) u))))
-
-  from-row : (b : Bool) → ltb (k / w) y ≡ b → T (ltb (k / w) (y + 1)) → T (ltb (k / w) y || before y w (k % w) (k / w))
-  from-row true q t = yes-or (ltb (k / w) y) (before y w (k % w) (k / w)) (subst T (sym q) tt)
-  from-row false q t =
-      or-yes (ltb (k / w) y) (before y w (k % w) (k / w))
-      (both (eqb (k / w) y) (ltb (k % w) w) (eq→T (k / w) y (omega (arith, ltb-false (k / w) y q, ltb→lt (k / w) (y + 1) t))) (lt→ltb (k % w) w (mod-lt k h)))
-
-  pub row-more : (ltb (k / w) y || before y w (k % w) (k / w)) ≡ ltb (k / w) (y + 1)
-  row-more = same (ltb (k / w) y || before y w (k % w) (k / w)) (ltb (k / w) (y + 1)) to-row (from-row (ltb (k / w) y) refl)
+pub whole : (w : ℕ) (r : Rect) (c : ℕ) (s : List ℕ) → pixels w (λ i j. inRect r i j && true) c s ≡ pixels w (inRect r) c s
+whole w r c s =
+    agree (λ k. inRect r (k % w) (k / w) && true) (λ k. inRect r (k % w) (k / w)) c s (λ k _. and-true (inRect r (k % w) (k / w)))

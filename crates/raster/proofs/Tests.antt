@@ -57,6 +57,17 @@ pub and-or : (a b c : Bool) → (a && (b || c)) ≡ (a && b || (a && c))
 and-or true b c = refl
 and-or false b c = refl
 
+pub or-and : (a b c : Bool) → (a && c || (b && c)) ≡ ((a || b) && c)
+or-and true b true = refl
+or-and true true false = refl
+or-and true false false = refl
+or-and false b c = refl
+
+-- two tests that are the same where another holds
+pub and-same : (a b c : Bool) → (T a → b ≡ c) → (a && b) ≡ (a && c)
+and-same true b c f = f tt
+and-same false b c f = refl
+
 -- the form of every test on a rectangle
 pub four : (a b c d : Bool) → T (a && b && (c && d)) → T a × T b × T c × T d
 four a b c d t =

@@ -8,4 +8,5 @@ pub mod Stores
 -- What only private functions promise:
 pub mod Moved
 pub mod Rects
+pub mod Parts
 pub mod Traces

@@ -2,7 +2,7 @@
 use mathlib.Core.Bool.{Bool, cond, _&&_}
 use mathlib.Core.List.{List}
 use Prim.Native.Nat.{ℕ, _+_, _-_, _*_, _/_, _%_, _≤_, _<_, min, max}
-use lib.Dec.{leb, ltb, eqb}
+use lib.Dec.{leb, eqb}
 use lib.ListN.{length}
 use Rattle.raster.specs.declared.frame.Pane.{Pane}
 use Rattle.raster.specs.declared.frame.Window.{Window}
@@ -26,10 +26,6 @@ inRect r i j = insideB r (i + 65536) (j + 65536)
 -- the byte of the dot p on a screen w wide
 abbrev pub byteB : ℕ → Spot → ℕ
 byteB w p = (p .y - 65536) * w + (p .x - 65536)
-
--- the pixel in column i of row j is in row y, before column x
-abbrev pub before : ℕ → ℕ → ℕ → ℕ → Bool
-before y x i j = eqb j y && ltb i x
 
 abbrev pub paneRect : Pane → Rect
 paneRect p = record { l = p .left + 65536; t = p .top + 65536; r = p .right + 65536; b = p .bottom + 65536 }

@@ -5,3 +5,4 @@ pub mod line; // a line's dots
 pub mod fill; // every drawable dot
 mod moved; // coordinates as unsigned numbers
 mod rect; // the drawable columns and rows
+mod part; // parts of the screen whose bytes lie side by side
