@@ -28,6 +28,7 @@ static const struct {
     [FRESH_CALLS] = { "fresh", { "good", "bad size", "bad pane", "both bad" } },
     [NUMBERS] = { "numbers", { "0", "1", "10", "11", "12", "13", "14", "20", "21", "22", "23", "24", "25", "26", "27",
                                "28", "29" } },
+    [CLEARINGS] = { "CLRWIN", { "whole screen", "whole rows", "parts of rows", "no column", "no row" } },
 };
 
 static uint64_t kinds_met[GROUPS][MOST_MEMBERS];
@@ -64,6 +65,32 @@ static void count_form(uint16_t opcode, struct afgis_answer answer)
         forms_refused[form][answer.number - 20]++;
 }
 
+/* What CLRWIN paints: the pane and, in modes 1 and 2, only the window's columns and rows of it. */
+static int clearing_of(const struct afgis_env *env)
+{
+    int64_t left = env->left, top = env->top, right = env->right, bottom = env->bottom;
+
+    if (env->mode != 0) {
+        left = env->x0 > left ? env->x0 : left;
+        top = env->y0 > top ? env->y0 : top;
+        right = env->x1 < right ? env->x1 : right;
+        bottom = env->y1 < bottom ? env->y1 : bottom;
+    }
+    if (left > right)
+        return CLEARING_NO_COLUMN;
+    if (top > bottom)
+        return CLEARING_NO_ROW;
+    if (left > 0 || right < (int64_t)env->width - 1)
+        return CLEARING_PARTS;
+    return top > 0 || bottom < (int64_t)env->height - 1 ? CLEARING_ROWS : CLEARING_SCREEN;
+}
+
+static void count_clearing(uint16_t opcode, struct afgis_answer answer, const struct afgis_env *env)
+{
+    if ((opcode == 0x0188 || opcode == 0x0189) && answer.steps == 1)
+        count_kind(CLEARINGS, clearing_of(env));
+}
+
 /* Goes the call's way once more with the reference, step by step. */
 static void count_forms(const struct call *call)
 {
@@ -75,8 +102,10 @@ static void count_forms(const struct call *call)
     for (uint32_t step = 0; answer.number == 1 && step < call->budget && step < STEPS_FOLLOWED; step++) {
         uint32_t counter = env.counter;
         answer = afgis_run(call->list, call->words, scratch, call->bytes, &env, 1);
-        if (counter < call->words)
+        if (counter < call->words) {
             count_form(call->list[counter], answer);
+            count_clearing(call->list[counter], answer, &env);
+        }
     }
 }
 
