@@ -1,7 +1,7 @@
 /*
- * How long the box takes against plain C for the same work: ratios, best of five. "Plain C" is plain.c
- * (Bresenham, a test per dot; memset row by row), "reference" is reference/afgis.c (a division and a test
- * per dot; a test per pixel), "memset" is one memset over the whole screen.
+ * How long the box takes against plain C for the same work: ratios of the best of some trials. "Plain C" is
+ * plain.c (Bresenham, a test per dot; memset row by row), "reference" is reference/afgis.c (a division and a
+ * test per dot; a test per pixel), "memset" is one memset over the whole screen.
  */
 
 #include "afgis.h"
@@ -9,13 +9,14 @@
 #include "ovenlute.h"
 #include "plain.h"
 
-enum { WIDTH = 1024, HEIGHT = 768, BYTES = WIDTH * HEIGHT, MOST_WORDS = 65536, STEPS = 1000000 };
-enum { TRIALS = 5, CLEARINGS = 20 };
+enum { WIDTH = 1024, HEIGHT = 768, MOST_SIDE = 2048, MOST_BYTES = MOST_SIDE * MOST_SIDE };
+enum { MOST_WORDS = 65536, STEPS = 1000000, TRIALS = 15, CLEARINGS = 20 };
 
 /* One kind of work: a list, run some times from a fresh environment. */
 struct work {
     const char *name;
     void (*make_list)(void);
+    uint32_t width, height;
     struct ovenlute_pane pane;
     int runs;
     int is_memset;  /* one memset would do the same */
@@ -23,7 +24,10 @@ struct work {
 
 static uint16_t list[MOST_WORDS];
 static size_t words;
-static uint8_t box_screen[BYTES], plain_screen[BYTES], reference_screen[BYTES], memset_screen[BYTES];
+
+/* All sides paint this one, and it starts a page: how fast memset is depends on where the bytes lie. */
+static uint8_t screen[MOST_BYTES] __attribute__((aligned(4096)));
+static uint8_t box_screen[MOST_BYTES];
 
 /* Called through a pointer, so that the compiler can't leave out a screen that nobody reads. */
 static void *(*volatile library_memset)(void *, int, size_t) = memset;
@@ -117,37 +121,46 @@ static void make_clear(void)
     put(0x0001);
 }
 
-#define WHOLE { 0, 0, WIDTH - 1, HEIGHT - 1 }
-#define MIDDLE { 400, 300, 599, 449 }
+#define WHOLE(width, height) width, height, { 0, 0, width - 1, height - 1 }
+#define PANE(width, height) width, height, { 400, 300, 599, 449 }
 
 static const struct work works[] = {
-    { "arithmetic loop", make_loop, WHOLE, 4, 0 },
-    { "lines on the screen", make_lines, WHOLE, 4, 0 },
-    { "short lines, up to 8 dots", make_short_lines, WHOLE, 10, 0 },
-    { "lines mostly outside the pane", make_far_lines, MIDDLE, 1, 0 },
-    { "single dots", make_dots, WHOLE, 20, 0 },
-    { "CLRWIN, whole screen", make_clear, WHOLE, 2, 1 },
-    { "CLRWIN, a pane of 200 x 150", make_clear, MIDDLE, 20, 0 },
+    { "arithmetic loop", make_loop, WHOLE(WIDTH, HEIGHT), 4, 0 },
+    { "lines on the screen", make_lines, WHOLE(WIDTH, HEIGHT), 4, 0 },
+    { "short lines, up to 8 dots", make_short_lines, WHOLE(WIDTH, HEIGHT), 10, 0 },
+    { "lines mostly outside the pane", make_far_lines, PANE(WIDTH, HEIGHT), 1, 0 },
+    { "single dots", make_dots, WHOLE(WIDTH, HEIGHT), 20, 0 },
+    { "CLRWIN, a whole screen of 2,048 x 2,048", make_clear, WHOLE(2048, 2048), 2, 1 },
+    { "CLRWIN, a whole screen of 640 x 480", make_clear, WHOLE(640, 480), 20, 1 },
+    { "CLRWIN, a pane of 200 x 150 in 640 x 480", make_clear, PANE(640, 480), 40, 0 },
+    { "CLRWIN, a pane of 200 x 150 in 2,048 x 2,048", make_clear, PANE(2048, 2048), 10, 0 },
 };
+
+enum { WORKS = sizeof works / sizeof works[0] };
 
 /* ---- the sides ---- */
 
 typedef struct afgis_answer c_run(const uint16_t *, size_t, uint8_t *, size_t, struct afgis_env *, uint32_t);
 typedef struct afgis_answer side(const struct work *);
 
-static struct afgis_answer run_c(const struct work *work, c_run *run, uint8_t *screen)
+static size_t bytes_of(const struct work *work)
+{
+    return (size_t)work->width * work->height;
+}
+
+static struct afgis_answer run_c(const struct work *work, c_run *run)
 {
     const struct ovenlute_pane *pane = &work->pane;
     struct afgis_env env;
 
-    afgis_fresh(WIDTH, HEIGHT, pane->left, pane->top, pane->right, pane->bottom, &env);
-    return run(list, words, screen, BYTES, &env, STEPS);
+    afgis_fresh(work->width, work->height, pane->left, pane->top, pane->right, pane->bottom, &env);
+    return run(list, words, screen, bytes_of(work), &env, STEPS);
 }
 
 static struct afgis_answer run_box(const struct work *work)
 {
-    struct ovenlute_made made = ovenlute_fresh(WIDTH, HEIGHT, work->pane);
-    struct ovenlute_done done = ovenlute_run(list, words, box_screen, BYTES, &made.env, STEPS);
+    struct ovenlute_made made = ovenlute_fresh(work->width, work->height, work->pane);
+    struct ovenlute_done done = ovenlute_run(list, words, screen, bytes_of(work), &made.env, STEPS);
     struct afgis_answer answer = { done.number, done.steps };
 
     return answer;
@@ -155,12 +168,12 @@ static struct afgis_answer run_box(const struct work *work)
 
 static struct afgis_answer run_plain(const struct work *work)
 {
-    return run_c(work, plain_run, plain_screen);
+    return run_c(work, plain_run);
 }
 
 static struct afgis_answer run_reference(const struct work *work)
 {
-    return run_c(work, afgis_run, reference_screen);
+    return run_c(work, afgis_run);
 }
 
 /* The C library's memset over the whole screen, as often as the list clears it. */
@@ -168,9 +181,8 @@ static struct afgis_answer run_memset(const struct work *work)
 {
     struct afgis_answer answer = { 0, CLEARINGS };
 
-    (void)work;
     for (int i = 0; i < CLEARINGS; i++)
-        library_memset(memset_screen, i, BYTES);
+        library_memset(screen, i, bytes_of(work));
     return answer;
 }
 
@@ -178,16 +190,26 @@ enum { BOX, PLAIN, REFERENCE, MEMSET, SIDES };
 
 static side *const sides[SIDES] = { run_box, run_plain, run_reference, run_memset };
 
-/* Box, plain C and reference must have done the same. */
-static int did_the_same(const struct work *work)
+static struct afgis_answer run_on_zeros(side *run, const struct work *work)
 {
-    struct afgis_answer box = run_box(work);
-    struct afgis_answer plain = run_plain(work);
-    struct afgis_answer reference = run_reference(work);
+    memset(screen, 0, sizeof screen);
+    return run(work);
+}
 
-    return box.number == plain.number && box.number == reference.number
-        && box.steps == plain.steps && box.steps == reference.steps
-        && memcmp(box_screen, plain_screen, BYTES) == 0 && memcmp(box_screen, reference_screen, BYTES) == 0;
+/* The side must do what the box did, whose screen is kept. */
+static int does_the_same(side *run, const struct work *work, struct afgis_answer box)
+{
+    struct afgis_answer answer = run_on_zeros(run, work);
+
+    return answer.number == box.number && answer.steps == box.steps && memcmp(screen, box_screen, sizeof screen) == 0;
+}
+
+static int all_do_the_same(const struct work *work)
+{
+    struct afgis_answer box = run_on_zeros(run_box, work);
+
+    memcpy(box_screen, screen, sizeof screen);
+    return does_the_same(run_plain, work, box) && does_the_same(run_reference, work, box);
 }
 
 /* ---- times ---- */
@@ -201,49 +223,68 @@ static double now(void)
     return (double)time.tv_sec + (double)time.tv_nsec / 1e9;
 }
 
+/* The time of one run. */
 static double time_of(side *run, const struct work *work)
 {
     double start = now();
 
     for (int i = 0; i < work->runs; i++)
         run(work);
-    return now() - start;
+    return (now() - start) / work->runs;
 }
 
-/* The best of some trials, in turn, so that all sides meet the same machine. */
+/* The best of some trials, in turn and each time another one first, so that all sides meet the same machine. */
 static void measure(const struct work *work, double *best)
 {
     for (int trial = 0; trial < TRIALS; trial++)
         for (int i = 0; i < SIDES; i++) {
-            double time = time_of(sides[i], work);
-            if (trial == 0 || time < best[i])
-                best[i] = time;
+            int turn = (trial + i) % SIDES;
+            double time = time_of(sides[turn], work);
+            if (trial == 0 || time < best[turn])
+                best[turn] = time;
         }
+}
+
+static void print_ratio(double a, double b)
+{
+    printf(a < 0.1 * b ? " %.4f |" : " %.2f |", a / b);
 }
 
 static void print_row(const struct work *work, const double *best)
 {
-    printf("| %s | %.2f | %.2f | ", work->name, best[BOX] / best[PLAIN], best[BOX] / best[REFERENCE]);
+    printf("| %s |", work->name);
+    print_ratio(best[BOX], best[PLAIN]);
+    print_ratio(best[BOX], best[REFERENCE]);
     if (work->is_memset)
-        printf("%.2f |\n", best[BOX] / best[MEMSET]);
+        print_ratio(best[BOX], best[MEMSET]);
     else
-        printf("- |\n");
+        printf(" - |");
+    printf("\n");
+}
+
+/* The last two works clear the same pane, in a small and in a large screen: the pane is to be paid, and not the screen. */
+static void print_small_pane(const double *in_small, const double *in_large)
+{
+    printf("\nThat pane in the large screen against the small one: box %.2f, plain C %.2f, reference %.2f.\n",
+           in_large[BOX] / in_small[BOX], in_large[PLAIN] / in_small[PLAIN],
+           in_large[REFERENCE] / in_small[REFERENCE]);
 }
 
 int main(void)
 {
-    double best[SIDES];
+    double best[WORKS][SIDES];
 
     printf("| Work | box / plain C | box / reference | box / memset |\n|---|---|---|---|\n");
-    for (size_t i = 0; i < sizeof works / sizeof works[0]; i++) {
+    for (size_t i = 0; i < WORKS; i++) {
         words = 0;
         works[i].make_list();
-        if (!did_the_same(&works[i])) {
+        if (!all_do_the_same(&works[i])) {
             printf("%s: the answers differ\n", works[i].name);
             return 1;
         }
-        measure(&works[i], best);
-        print_row(&works[i], best);
+        measure(&works[i], best[i]);
+        print_row(&works[i], best[i]);
     }
+    print_small_pane(best[WORKS - 2], best[WORKS - 1]);
     return 0;
 }
