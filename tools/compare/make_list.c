@@ -491,8 +491,9 @@ static uint32_t make_index(const struct sketch *sketch)
     if (one_in(16))
         return MOST_WORDS - below(2);
     if (!one_in(8) && sketch->opcodes > 0)
-        return (uint32_t)sketch->starts[below((uint32_t)sketch->opcodes)];
-    index = below((uint32_t)sketch->call->words + 2);
+        index = (uint32_t)sketch->starts[below((uint32_t)sketch->opcodes)];
+    else
+        index = below((uint32_t)sketch->call->words + 2);
     return index <= MOST_WORDS ? index : MOST_WORDS;
 }
 
