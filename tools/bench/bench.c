@@ -262,7 +262,7 @@ static void print_row(const struct work *work, const double *best)
     printf("\n");
 }
 
-/* The last two works clear the same pane, in a small and in a large screen: the pane is to be paid, and not the screen. */
+/* The last two works clear the same pane in a small and in a large screen: the pane is to be paid, not the screen. */
 static void print_small_pane(const double *in_small, const double *in_large)
 {
     printf("\nThat pane in the large screen against the small one: box %.2f, plain C %.2f, reference %.2f.\n",

@@ -9,7 +9,8 @@ enum { MOST_WORDS = 65536, MOST_STEPS = 1000000, MOST_SIDE = 2048 };
 /* Room for lists and screens somewhat longer than any that is allowed. */
 enum { LIST_ROOM = MOST_WORDS + 64, SCREEN_ROOM = MOST_SIDE * MOST_SIDE + 4 * MOST_SIDE };
 
-/* Whatever is counted belongs to one of these groups; a call has at most one member of each. */
+/* Whatever is counted belongs to one of these groups. A call has at most one member of each, but for CLEARINGS: those
+   are counted for each CLRWIN on its way. */
 enum group {
     CALLS, LISTS, ENVIRONMENTS, BROKEN_FIELDS, SIZES, PANES, WINDOWS, MODES, BUDGETS, SCREENS,
     DOOR_PAIRS, OPCODE_PAIRS, FRESH_CALLS, NUMBERS, CLEARINGS,

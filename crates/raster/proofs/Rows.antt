@@ -1,27 +1,16 @@
 -- Row after row: a shape painted within a rectangle, one row at a time.
-use mathlib.Core.Path.{_≡_, refl, sym, ap, _∙_, subst}
-use mathlib.Core.Bool.{Bool, true, false, _&&_, _||_}
+use mathlib.Core.Path.{_≡_, sym, ap, _∙_}
+use mathlib.Core.Bool.{Bool, true, _&&_, _||_}
 use mathlib.Core.List.{List}
 use Prim.Native.Nat.{ℕ, _+_, _/_, _%_, _<_, _≤_}
 use native.Mathlib.Omega.{arith}
-use lib.Dec.{T, ltb, eqb, ltb→lt, lt→ltb, eqb→eq}
-use borrow.Author.Tests.{ltb-false}
+use lib.Dec.{ltb, eqb, ltb→lt, lt→ltb, eqb→eq}
 use Rattle.raster.specs.declared.rect.Rect.{Rect}
 use Rattle.raster.specs.Rects.{pixels, inRect}
 use Rattle.raster.specs.Parts.{rowPart}
-use Rattle.raster.proofs.Tests.{same, both, left, right, or-elim, yes-or, or-yes, eq→T, and-true, and-or, or-and, and-same}
+use Rattle.raster.proofs.Tests.{same, both, left, right, eq→T, and-true, and-or, or-and, and-same, lt-next}
 use Rattle.raster.proofs.Recolour.{none, agree, twice}
 use Rattle.raster.proofs.Pixels.{inside-is, is-inside}
-
-lt-next : (j y : ℕ) → (ltb j y || eqb j y) ≡ ltb j (y + 1)
-lt-next j y =
-    same (ltb j y || eqb j y) (ltb j (y + 1))
-    (λ t. or-elim (ltb j y) (eqb j y) t (λ u. lt→ltb j (y + 1) (omega (arith, ltb→lt j y u))) (λ u. lt→ltb j (y + 1) (omega (arith, eqb→eq j y u))))
-    (λ t. by (ltb→lt j (y + 1) t) (ltb j y) refl)
-  where
-    by : j < y + 1 → (b : Bool) → ltb j y ≡ b → T (ltb j y || eqb j y)
-    by l true q = yes-or (ltb j y) (eqb j y) (subst T (sym q) tt)
-    by l false q = or-yes (ltb j y) (eqb j y) (eq→T j y (omega (arith, ltb-false j y q)))
 
 module _ (w : ℕ) (r : Rect) (D : ℕ → ℕ → Bool) where
   -- the pixel is one of the shape's, in a row of r above row y

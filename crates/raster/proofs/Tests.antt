@@ -1,8 +1,10 @@
 -- Tests that compute, as facts.
-use mathlib.Core.Path.{_≡_, refl, subst}
+use mathlib.Core.Path.{_≡_, refl, sym, subst}
 use mathlib.Core.Bool.{Bool, true, false, _&&_, _||_}
-use Prim.Native.Nat.{ℕ}
-use lib.Dec.{T, eqb, eqb-refl}
+use Prim.Native.Nat.{ℕ, _+_, _<_}
+use native.Mathlib.Omega.{arith}
+use lib.Dec.{T, ltb, eqb, ltb→lt, lt→ltb, eqb→eq, eqb-refl}
+use borrow.Author.Tests.{ltb-false}
 
 -- two tests that follow from each other are one
 pub same : (a b : Bool) → (T a → T b) → (T b → T a) → a ≡ b
@@ -67,6 +69,17 @@ or-and false b c = refl
 pub and-same : (a b c : Bool) → (T a → b ≡ c) → (a && b) ≡ (a && c)
 and-same true b c f = f tt
 and-same false b c f = refl
+
+-- below the next number is below the number, or the number itself
+pub lt-next : (j y : ℕ) → (ltb j y || eqb j y) ≡ ltb j (y + 1)
+lt-next j y =
+    same (ltb j y || eqb j y) (ltb j (y + 1))
+    (λ t. or-elim (ltb j y) (eqb j y) t (λ u. lt→ltb j (y + 1) (omega (arith, ltb→lt j y u))) (λ u. lt→ltb j (y + 1) (omega (arith, eqb→eq j y u))))
+    (λ t. by (ltb→lt j (y + 1) t) (ltb j y) refl)
+  where
+    by : j < y + 1 → (b : Bool) → ltb j y ≡ b → T (ltb j y || eqb j y)
+    by l true q = yes-or (ltb j y) (eqb j y) (subst T (sym q) tt)
+    by l false q = or-yes (ltb j y) (eqb j y) (eq→T j y (omega (arith, ltb-false j y q)))
 
 -- the form of every test on a rectangle
 pub four : (a b c d : Bool) → T (a && b && (c && d)) → T a × T b × T c × T d

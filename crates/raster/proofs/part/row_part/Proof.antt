@@ -3,7 +3,8 @@ use mathlib.Core.Path.{_∙_}
 use native.Mathlib.Omega.{arith}
 use borrow.Author.Needs.{needs}
 use Rattle.raster.specs.Rects.{Seen}
-use Rattle.raster.proofs.Parts.{no-part, as-bytes, last-seen}
+use Rattle.raster.specs.Parts.{rowPart}
+use Rattle.raster.proofs.Parts.{no-pixel, as-bytes, last-seen}
 use Rattle.raster.proofs.part.row_part.Statement.{statement}
 use Rattle.raster.proofs.part.row_part.Tie as tie
 
@@ -11,7 +12,7 @@ last : (c : tie.Then1) → let g = c .before .before .args in Seen (g .w) (recor
 last c =
     let s = c .before .before in
     let g = s .args in
-    last-seen (g .w) (g .y) (g .x0) (g .x1) (g .c) (g .screen .now) (s .pre) (c .if1 .taken)
+    last-seen (g .w) (g .y) (g .x0) (g .x1) (g .screen .now) (s .pre) (c .if1 .taken)
 
 sub-at : tie.Need-sub-at
 sub-at c = search needs
@@ -52,12 +53,12 @@ returns c =
     let t = p .before .before in
     let s = t .before .before in
     let g = s .args in
-    p .set-bytes .ensures ∙ as-bytes (g .w) (g .y) (g .x0) (g .x1) (g .c) (g .screen .now) (s .pre) (t .if1 .taken)
+    p .set-bytes .ensures ∙ as-bytes (g .w) (g .y) (g .x0) (g .x1) (g .screen .now) (s .pre) (t .if1 .taken) (g .c)
 
 returns-2 : tie.Need-returns-2
 returns-2 c =
     let g = c .before .before .args in
-    no-part (g .w) (g .y) (g .x0) (g .x1) (g .c) (g .screen .now) (c .if1 .left)
+    no-pixel (g .w) (rowPart (g .y) (g .x0) (g .x1)) (g .c) (g .screen .now) (λ p. omega (arith, p, c .if1 .left))
 
 pub row-part-spec : {M : Type 1} → statement M
 row-part-spec =

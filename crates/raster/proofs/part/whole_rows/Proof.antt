@@ -3,7 +3,7 @@ use mathlib.Core.Path.{_∙_}
 use native.Mathlib.Omega.{arith}
 use borrow.Author.Needs.{needs}
 use Prim.Native.Nat.{_-_, _*_, _≤_}
-use Rattle.raster.proofs.Parts.{no-rows, rows-as-bytes, rows-small}
+use Rattle.raster.proofs.Parts.{no-pixel, rows-as-bytes, rows-small}
 use Rattle.raster.proofs.part.whole_rows.Statement.{statement}
 use Rattle.raster.proofs.part.whole_rows.Tie as tie
 
@@ -12,7 +12,7 @@ small : (c : tie.After-set-bytes-arg) → let g = c .before .before .before .arg
 small c =
     let s = c .before .before .before in
     let g = s .args in
-    rows-small (g .w) (g .r) (g .c) (g .screen .now) (s .pre .0) (c .before .if1 .taken)
+    rows-small (g .w) (g .r) (g .screen .now) (s .pre .0) (c .before .if1 .taken)
 
 sub-set-bytes : tie.Need-sub-set-bytes
 sub-set-bytes c = search needs
@@ -44,12 +44,12 @@ returns c =
     let s = p .before .before .before .before in
     let g = s .args in
     let h = s .pre .1 in
-    p .set-bytes .ensures ∙ rows-as-bytes (g .w) (g .r) (g .c) (g .screen .now) (s .pre .0) (h .0) (h .1) (h .2)
+    p .set-bytes .ensures ∙ rows-as-bytes (g .w) (g .r) (g .screen .now) (s .pre .0) (h .0) (h .1) (h .2) (g .c)
 
 returns-2 : tie.Need-returns-2
 returns-2 c =
     let g = c .before .before .args in
-    no-rows (g .w) (g .r) (g .c) (g .screen .now) (c .if1 .left)
+    no-pixel (g .w) (g .r) (g .c) (g .screen .now) (λ p. omega (arith, p, c .if1 .left))
 
 pub whole-rows-spec : {M : Type 1} → statement M
 whole-rows-spec =
