@@ -1,6 +1,6 @@
--- Whole numbers and the same numbers moved up: order, equality, difference, and a step toward.
+-- Whole numbers and the same numbers moved up: order, equality, sum and difference.
 use mathlib.Core.Path.{_≡_, refl, sym, ap, _∙_}
-use mathlib.Core.Bool.{Bool, true, false, cond}
+use mathlib.Core.Bool.{Bool, cond}
 use Prim.Native.Nat.{ℕ, zero, suc, _+_, _-_, _<_, _≤_}
 use native.Mathlib.Omega.{arith}
 use native.Mathlib.Decide.{decLt}
@@ -10,11 +10,11 @@ use lib.Dec.{leb, eqb, leb→le, le→leb, eqb→eq}
 use mir.Syntax.{w32}
 use mir.Val.{toZ, ofZ}
 use mir.Facts.{toZ-ofZ}
-use borrow.Author.Tests.{leb-true, leb-false, lt-ltb, le-ltb, le-leb, lt-leb, ne-eqb}
+use borrow.Author.Tests.{lt-ltb, le-ltb, le-leb, lt-leb, ne-eqb}
 use Rattle.raster.specs.Shapes.{eqZ}
 use Rattle.raster.specs.Frame.{Coord}
-use Rattle.raster.specs.Line.{gap, toward}
-use Rattle.raster.specs.Moved.{bias, gapB, towardB}
+use Rattle.raster.specs.Line.{gap}
+use Rattle.raster.specs.Moved.{bias, gapB}
 use Rattle.raster.proofs.Tests.{same, eq→T}
 
 pub bias-lt : (z : ℤ) → mag z < 65536 → bias z < 131072
@@ -63,7 +63,7 @@ pub pos-le : (z : ℤ) (i : ℕ) → mag z < 65536 → leZ (pos i) z ≡ leb (i 
 pos-le (pos n) i h = leb-iff i n (i + 65536) (n + 65536) (λ l. omega arith) (λ l. omega arith)
 pos-le (negsuc n) i h = sym (lt-leb (i + 65536) (65535 - n) (omega arith))
 
-le-is : (a b : ℤ) → mag a < 65536 → mag b < 65536 → leZ a b ≡ leb (bias a) (bias b)
+pub le-is : (a b : ℤ) → mag a < 65536 → mag b < 65536 → leZ a b ≡ leb (bias a) (bias b)
 le-is a (pos b) h k = le-pos a b h
 le-is (pos a) (negsuc b) h k = pos-le (negsuc b) a k
 le-is (negsuc a) (negsuc b) h k = leb-iff b a (65535 - a) (65535 - b) (λ l. omega arith) (λ l. omega arith)
@@ -87,15 +87,15 @@ pub up : (z : ℤ) → mag z < 65536 → z +ℤ pos 65536 ≡ pos (bias z)
 up (pos n) h = refl
 up (negsuc n) h = sub-ge 65536 (suc n) (omega arith) ∙ ap pos (omega arith)
 
-plus : (z : ℤ) (k : ℕ) → mag z < 65536 → z +ℤ pos k ≡ subℕ (bias z + k) 65536
+pub plus : (z : ℤ) (k : ℕ) → mag z < 65536 → z +ℤ pos k ≡ subℕ (bias z + k) 65536
 plus (pos n) k h = sym (sub-ge (n + 65536 + k) 65536 (omega arith) ∙ ap pos (omega arith))
 plus (negsuc n) k h = sub-same k (suc n) (65535 - n + k) 65536 (omega arith)
 
-minus : (z : ℤ) (k : ℕ) → mag z < 65536 → k ≤ bias z → z -ℤ pos k ≡ subℕ (bias z - k) 65536
+pub minus : (z : ℤ) (k : ℕ) → mag z < 65536 → k ≤ bias z → z -ℤ pos k ≡ subℕ (bias z - k) 65536
 minus (pos n) k h l = pos-minus n k ∙ sub-same n k (n + 65536 - k) 65536 (omega arith)
 minus (negsuc n) k h l = neg-minus n k ∙ sub-same 0 (suc n + k) (65535 - n - k) 65536 (omega arith)
 
-apart : (a b : ℤ) → mag a < 65536 → mag b < 65536 → b -ℤ a ≡ subℕ (bias b) (bias a)
+pub apart : (a b : ℤ) → mag a < 65536 → mag b < 65536 → b -ℤ a ≡ subℕ (bias b) (bias a)
 apart (pos a) (pos b) h k = pos-minus b a ∙ sub-same b a (b + 65536) (a + 65536) (omega arith)
 apart (negsuc a) (pos b) h k =
     sym (sub-ge (b + suc a) 0 (omega arith) ∙ ap pos (omega arith)) ∙ sub-same (b + suc a) 0 (b + 65536) (65535 - a) (omega arith)
@@ -111,19 +111,3 @@ abs-sub x y = by (decLt x y)
 
 pub gap-is : (a b : ℤ) → Coord a → Coord b → gap a b ≡ gapB (bias a) (bias b)
 gap-is a b h k = ap natAbs (apart a b (h .small) (k .small)) ∙ abs-sub (bias b) (bias a)
-
-module _ (a b : ℤ) (k : ℕ) (h : mag a < 65536) (l : k ≤ gapB (bias a) (bias b)) where
-  toward-by : (t : Bool) → leb (bias a) (bias b) ≡ t → cond t (a +ℤ pos k) (a -ℤ pos k) ≡ subℕ (towardB (bias a) (bias b) k) 65536
-  toward-by true e = plus a k h ∙ ap (λ (x : ℕ). subℕ x 65536) at
-    where
-      at : bias a + k ≡ towardB (bias a) (bias b) k
-      at = omega (arith, leb-true (bias a) (bias b) e)
-  toward-by false e = minus a k h (omega (arith, leb-false (bias a) (bias b) e)) ∙ ap (λ (x : ℕ). subℕ x 65536) at
-    where
-      at : bias a - k ≡ towardB (bias a) (bias b) k
-      at = omega (arith, leb-false (bias a) (bias b) e)
-
-pub toward-is : (a b : ℤ) (k : ℕ) → Coord a → Coord b → k ≤ gapB (bias a) (bias b) → toward a b k ≡ subℕ (towardB (bias a) (bias b) k) 65536
-toward-is a b k h h′ l =
-    ap (λ (t : Bool). cond t (a +ℤ pos k) (a -ℤ pos k)) (le-is a b (h .small) (h′ .small))
-    ∙ toward-by a b k (h .small) l (leb (bias a) (bias b)) refl

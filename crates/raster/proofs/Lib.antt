@@ -1,6 +1,8 @@
 -- What follows from the rules:
 pub mod Paintings
 pub mod Stores
+pub mod Floor
+pub mod Directions
 pub mod LineEnds
 pub mod Pictures
 -- The laws that proofs cite, here and in the crates above:
@@ -9,8 +11,10 @@ pub mod Recolour
 pub mod Coordinates
 pub mod Rectangles
 pub mod Pixels
+pub mod SomeBelow
 pub mod Sides
-pub mod Lines
+pub mod Courses
+pub mod Walks
 pub mod Parts
 pub mod Rows
 pub mod Drawings

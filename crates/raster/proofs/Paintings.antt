@@ -104,7 +104,7 @@ commute f g S R c d s e n =
         n (columnOf (f .bounds) k) (rowOf (f .bounds) k) (hit-pane f S k t)
         (subst (λ (w : ℕ). T (inPane (g .bounds) (pos (k % w)) (pos (k / w)))) (sym e) (hit-pane g R k u))
 
--- ---- shapes in one colour
+-- ---- shapes one after the other
 pub union : (f : Frame) (S R : Shape) (c : ℕ) (s : List ℕ) → paint f R c (paint f S c s) ≡ paint f (λ x y. S x y || R x y) c s
 unfolding paint
 union f S R c s =
@@ -114,6 +114,19 @@ union f S R c s =
     let x = columnOf (f .bounds) k in
     let y = rowOf (f .bounds) k in
     sym (and-or (drawable f x y) (S x y) (R x y)))
+
+-- a shape painted twice shows the second colour
+pub over : (f : Frame) (S : Shape) (c d : ℕ) (s : List ℕ) → paint f S d (paint f S c s) ≡ paint f S d s
+over f S c d s =
+    unique f S d s (paint f S d (paint f S c s))
+    (record {
+      long-as = length-both f f S S c d s;
+      bytes = λ k h. byte-both f f S S c d s k h ∙ again (hit f S k) (getD s k 0);
+    })
+  where
+    again : (b : Bool) (v : ℕ) → cond b d (cond b c v) ≡ cond b d v
+    again true v = refl
+    again false v = refl
 
 -- the empty shape paints nothing
 pub nothing : (f : Frame) (c : ℕ) (s : List ℕ) → paint f (λ x y. false) c s ≡ s

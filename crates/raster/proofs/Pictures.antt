@@ -1,4 +1,4 @@
--- The pictures of document 01's cases 9 and 10, by computation.
+-- The pictures of document 01's cases 9 and 10 and of request T-02's two examples, by computation.
 use mathlib.Core.Path.{_≡_, refl}
 use mathlib.Core.List.{[], _∷_}
 use Prim.Native.Nat.{ℕ}
@@ -23,6 +23,12 @@ fresh l =
 abbrev slant : Line
 slant = record { from = record { x = pos 0; y = pos 0 }; to = record { x = pos 4; y = pos 2 } }
 
+abbrev back : Line
+back = record { from = record { x = pos 4; y = pos 2 }; to = record { x = pos 0; y = pos 0 } }
+
+abbrev slope : Line
+slope = record { from = record { x = pos 0; y = pos 2 }; to = record { x = pos 4; y = pos 0 } }
+
 pub case-9 : paint (fresh 0) (line slant) 15 (replicate 15 0)
     ≡ 15 ∷ 0 ∷ 0 ∷ 0 ∷ 0
     ∷ 0 ∷ 15 ∷ 15 ∷ 0 ∷ 0
@@ -36,3 +42,16 @@ pub case-10 : paint (fresh 2) (line slant) 15 (replicate 15 0)
     ∷ 0 ∷ 0 ∷ 0 ∷ 15 ∷ 15 ∷ []
 unfolding paint drawable line side someBelow recolourFrom
 case-10 = refl
+
+-- T-02: drawn, and rubbed out from the other end
+pub rubbed-out : paint (fresh 0) (line back) 0 (paint (fresh 0) (line slant) 15 (replicate 15 0)) ≡ replicate 15 0
+unfolding paint drawable line side someBelow recolourFrom
+rubbed-out = refl
+
+-- T-02: a line that falls
+pub falling : paint (fresh 0) (line slope) 15 (replicate 15 0)
+    ≡ 0 ∷ 0 ∷ 0 ∷ 0 ∷ 15
+    ∷ 0 ∷ 0 ∷ 15 ∷ 15 ∷ 0
+    ∷ 15 ∷ 15 ∷ 0 ∷ 0 ∷ 0 ∷ []
+unfolding paint drawable line side someBelow recolourFrom
+falling = refl

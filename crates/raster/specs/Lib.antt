@@ -9,4 +9,5 @@ pub mod Stores
 pub mod Moved
 pub mod Rects
 pub mod Parts
-pub mod Traces
+pub mod Courses
+pub mod Walks

@@ -1,6 +1,6 @@
 -- Coordinates moved up by 65,536, so that they are natural numbers: names that end in B speak of such.
-use mathlib.Core.Bool.{Bool, _&&_}
-use Prim.Native.Nat.{ℕ, _+_, _-_, min, max}
+use mathlib.Core.Bool.{Bool, cond, _&&_}
+use Prim.Native.Nat.{ℕ, _+_, _-_}
 use lib.IntN.{ℤ, pos, negsuc}
 use lib.Dec.{eqb}
 use Rattle.raster.specs.declared.dots.Dot.{Dot}
@@ -21,6 +21,6 @@ dotB p i j = eqb (p .x) (i + 65536) && eqb (p .y) (j + 65536)
 abbrev pub gapB : ℕ → ℕ → ℕ
 gapB a b = (b - a) + (a - b)
 
--- k from a toward b, where k is at most their gap
-abbrev pub towardB : ℕ → ℕ → ℕ → ℕ
-towardB a b k = min (a + k) (max b (a - k))
+-- q up from b, or down
+abbrev pub aside : Bool → ℕ → ℕ → ℕ
+aside up b q = cond up (b + q) (b - q)

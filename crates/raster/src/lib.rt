@@ -4,5 +4,6 @@ pub mod dots; // one dot
 pub mod line; // a line's dots
 pub mod fill; // every drawable dot
 mod moved; // coordinates as unsigned numbers
+mod course; // a line from its start along the long axis
 mod rect; // the drawable columns and rows
 mod part; // parts of the screen whose bytes lie side by side

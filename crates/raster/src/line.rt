@@ -1,24 +1,23 @@
 // A line's dots, with no division for each.
+use crate::course::Course;
+use crate::course::course_of;
+use crate::course::half_of;
+use crate::course::spot_at;
 use crate::dots::Dot;
 use crate::frame::Frame;
-use crate::moved::Spot;
-use crate::moved::gap_of;
-use crate::moved::larger;
-use crate::moved::smaller;
 use crate::moved::spot_of;
-use crate::moved::step_toward;
 use crate::rect::Rect;
 use crate::rect::plot_in;
 use crate::rect::rect_of;
 ghost use mathlib.Core.Path.{_≡_};
-ghost use mathlib.Core.Bool.{_&&_, cond};
-ghost use Prim.Native.Nat.{_*_, _<_, _≤_};
+ghost use mathlib.Core.Bool.{_&&_};
+ghost use Prim.Native.Nat.{suc, _*_, _<_, _≤_};
 ghost use Rattle.raster.specs.Frame.{Coord, Fitting};
 ghost use Rattle.raster.specs.Paint.{paint};
 ghost use Rattle.raster.specs.Line.{line};
-ghost use Rattle.raster.specs.Moved.{gapB};
 ghost use Rattle.raster.specs.Rects.{pixels, inRect, Room};
-ghost use Rattle.raster.specs.Traces.{endsOf, spotAt, lineB, Low, Near, Stepped};
+ghost use Rattle.raster.specs.Courses.{Fair};
+ghost use Rattle.raster.specs.Walks.{stretchB, Reached, Stepped};
 
 #[repr(C)]
 pub struct Line {
@@ -26,42 +25,7 @@ pub struct Line {
     pub to: Dot,
 }
 
-// A line's ends, moved up.
-struct Ends {
-    from: Spot,
-    to: Spot,
-}
-
-fn ends_of(l: Line) -> Ends
-    requires { ⌜ Coord (l .from .x) × Coord (l .from .y) × Coord (l .to .x) × Coord (l .to .y) ⌝ }
-    ensures { λ r. ⌜ r ≡ endsOf l ⌝ }
-{
-    Ends {
-        from: spot_of(l.from),
-        to: spot_of(l.to),
-    }
-}
-
-fn choose(t: bool, a: u32, b: u32) -> u32
-    ensures { λ r. ⌜ r ≡ cond t a b ⌝ }
-{
-    if t { a } else { b }
-}
-
-// The dot k along the long axis and q along the other; flat says that x is the long axis.
-fn spot_at(l: Ends, flat: bool, k: u32, q: u32) -> Spot
-    requires { ⌜ (cond flat k q ≤ gapB (l .from .x) (l .to .x)) × (cond flat q k ≤ gapB (l .from .y) (l .to .y)) ⌝ }
-    ensures { λ r. ⌜ r ≡ spotAt l flat k q ⌝ }
-{
-    let a = l.from;
-    let b = l.to;
-    Spot {
-        x: step_toward(a.x, b.x, choose(flat, k, q)),
-        y: step_toward(a.y, b.y, choose(flat, q, k)),
-    }
-}
-
-// How far along the short axis a line is, q, and what is left, e, in parts of 2n.
+// How far aside a dot is, q, and what is left there, e, in parts of 2n.
 struct Slope {
     q: u32,
     e: u32,
@@ -83,42 +47,23 @@ fn next(q: u32, e: u32, n: u32, m: u32) -> Slope
     }
 }
 
-// The dots 0 to n - 1 in a loop, and then the end; n and m are the larger and the smaller difference.
-fn trace(screen: &mut [u8], w: u32, r: Rect, l: Ends, flat: bool, n: u32, m: u32, c: u8)
+// The dots from dot first, whose slope is s, to dot last, each painted where it is within r: all but the last in a loop.
+fn walk(screen: &mut [u8], w: u32, r: Rect, l: Course, first: u32, last: u32, s: Slope, c: u8)
     requires { ⌜ Room w r (now screen) ⌝ }
-    requires { ⌜ Near l flat n m ⌝ }
-    ensures { λ _. ⌜ now (screen .exit) ≡ pixels w (λ i j. inRect r i j && lineB l i j) c (now (screen .entry)) ⌝ }
+    requires { ⌜ Fair l × Reached l first (s .q) (s .e) × (first ≤ last) × (last ≤ l .n) ⌝ }
+    ensures { λ _. ⌜ now (screen .exit) ≡ pixels w (λ i j. inRect r i j && stretchB l first (suc last) i j) c (now (screen .entry)) ⌝ }
 {
-    let mut k: u32 = 0;
-    let mut q: u32 = 0;
-    let mut e = n;
-    while k < n {
-        plot_in(screen, w, r, spot_at(l, flat, k, q), c);
-        let s = next(q, e, n, m);
-        q = s.q;
-        e = s.e;
+    let mut k = first;
+    let mut q = s.q;
+    let mut e = s.e;
+    while k < last {
+        plot_in(screen, w, r, spot_at(l, k, q), c);
+        let t = next(q, e, l.n, l.m);
+        q = t.q;
+        e = t.e;
         k += 1;
     }
-    plot_in(screen, w, r, l.to, c);
-}
-
-fn line_in(screen: &mut [u8], w: u32, r: Rect, l: Ends, c: u8)
-    requires { ⌜ Room w r (now screen) ⌝ }
-    requires { ⌜ Low l ⌝ }
-    ensures { λ _. ⌜ now (screen .exit) ≡ pixels w (λ i j. inRect r i j && lineB l i j) c (now (screen .entry)) ⌝ }
-{
-    let dx = gap_of(l.from.x, l.to.x);
-    let dy = gap_of(l.from.y, l.to.y);
-    trace(
-        screen,
-        w,
-        r,
-        l,
-        dy <= dx,
-        larger(dx, dy),
-        smaller(dx, dy),
-        c,
-    );
+    plot_in(screen, w, r, spot_at(l, k, q), c);
 }
 
 // The drawable dots of the line.
@@ -127,5 +72,8 @@ pub fn draw_line(screen: &mut [u8], f: Frame, l: Line, c: u8)
     requires { ⌜ Coord (l .from .x) × Coord (l .from .y) × Coord (l .to .x) × Coord (l .to .y) ⌝ }
     ensures { λ _. ⌜ now (screen .exit) ≡ paint f (line l) c (now (screen .entry)) ⌝ }
 {
-    line_in(screen, f.bounds.width, rect_of(f), ends_of(l), c);
+    let r = rect_of(f);
+    let o = course_of(spot_of(l.from), spot_of(l.to));
+    let e = half_of(o);
+    walk(screen, f.bounds.width, r, o, 0, o.n, Slope { q: 0, e }, c);
 }

@@ -1,9 +1,10 @@
 // Coordinates moved up by 65,536, so that they are unsigned. Nothing else computes with signed numbers.
 use crate::dots::Dot;
 ghost use mathlib.Core.Path.{_≡_};
-ghost use Prim.Native.Nat.{_≤_, min, max};
+ghost use mathlib.Core.Bool.{false};
+ghost use Prim.Native.Nat.{_-_, _<_, _≤_, min, max};
 ghost use Rattle.raster.specs.Frame.{Coord};
-ghost use Rattle.raster.specs.Moved.{bias, spotOf, gapB, towardB};
+ghost use Rattle.raster.specs.Moved.{bias, spotOf, gapB, aside};
 
 // A dot, moved up.
 pub struct Spot {
@@ -45,10 +46,17 @@ pub fn gap_of(a: u32, b: u32) -> u32
     if a <= b { b - a } else { a - b }
 }
 
-// k from a toward b, where b is no nearer.
-pub fn step_toward(a: u32, b: u32, k: u32) -> u32
-    requires { ⌜ k ≤ gapB a b ⌝ }
-    ensures { λ r. ⌜ r ≡ towardB a b k ⌝ }
+// a - b, and 0 where b is the larger.
+pub fn less(a: u32, b: u32) -> u32
+    ensures { λ r. ⌜ r ≡ a - b ⌝ }
 {
-    if a <= b { a + k } else { a - k }
+    if a < b { 0 } else { a - b }
+}
+
+// q up from b, or down.
+pub fn aside_of(up: bool, b: u32, q: u32) -> u32
+    requires { ⌜ (b < 131072) × (q < 131072) × (up ≡ false → q ≤ b) ⌝ }
+    ensures { λ r. ⌜ r ≡ aside up b q ⌝ }
+{
+    if up { b + q } else { b - q }
 }
