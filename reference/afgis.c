@@ -140,26 +140,37 @@ static int64_t distance(int32_t a, int32_t b)
     return a < b ? (int64_t)b - a : (int64_t)a - b;
 }
 
-/* From `from`, `count` toward `to`. */
-static int32_t toward(int32_t from, int32_t to, int64_t count)
+/* Rounded toward minus infinity; the divisor is above 0. */
+static int64_t floor_of(int64_t dividend, int64_t divisor)
 {
-    return (int32_t)(from < to ? from + count : from - count);
+    int64_t quotient = dividend / divisor;
+
+    return dividend % divisor < 0 ? quotient - 1 : quotient;
 }
 
-/* "Go k along the long axis from the first point and floor((2km + n) / 2n) along the other." */
+/* "The other axis gets floor((2kd + n) / 2n) added, d its signed difference." */
+static int64_t aside(int64_t k, int64_t difference, int64_t n)
+{
+    return n == 0 ? 0 : floor_of(2 * k * difference + n, 2 * n);
+}
+
+/* "Start from the end with the smaller coordinate on the long axis." */
 static void paint_line(struct machine *m, int32_t x0, int32_t y0, int32_t x1, int32_t y1)
 {
     int64_t across = distance(x0, x1);
     int64_t down = distance(y0, y1);
     int x_is_long = across >= down;
-    int64_t larger = x_is_long ? across : down;
-    int64_t smaller = x_is_long ? down : across;
+    int64_t n = x_is_long ? across : down;
+    int starts_at_second = x_is_long ? x1 < x0 : y1 < y0;
+    int64_t x = starts_at_second ? x1 : x0;
+    int64_t y = starts_at_second ? y1 : y0;
+    int64_t end_x = starts_at_second ? x0 : x1;
+    int64_t end_y = starts_at_second ? y0 : y1;
 
-    for (int64_t k = 0; k <= larger; k++) {
-        int64_t aside = larger == 0 ? 0 : (2 * k * smaller + larger) / (2 * larger);
-        int32_t x = toward(x0, x1, x_is_long ? k : aside);
-        int32_t y = toward(y0, y1, x_is_long ? aside : k);
-        paint(m, x, y, m->env->colour);
+    for (int64_t k = 0; k <= n; k++) {
+        int64_t dot_x = x + (x_is_long ? k : aside(k, end_x - x, n));
+        int64_t dot_y = y + (x_is_long ? aside(k, end_y - y, n) : k);
+        paint(m, (int32_t)dot_x, (int32_t)dot_y, m->env->colour);
     }
 }
 

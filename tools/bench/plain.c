@@ -43,30 +43,33 @@ static inline void paint(const struct machine *m, struct area area, int32_t x, i
         m->screen[(uint32_t)y * m->env->width + (uint32_t)x] = colour;
 }
 
-/* Bresenham's way: no division, a test per dot. */
+/* Bresenham's way from the end with the smaller coordinate on the long axis: no division, a test per dot. */
 static void paint_line(const struct machine *m, int32_t x0, int32_t y0, int32_t x1, int32_t y1)
 {
     int32_t across = x0 < x1 ? x1 - x0 : x0 - x1;
     int32_t down = y0 < y1 ? y1 - y0 : y0 - y1;
-    int32_t step_x = x0 < x1 ? 1 : -1;
-    int32_t step_y = y0 < y1 ? 1 : -1;
     int x_is_long = across >= down;
+    int is_turned = x_is_long ? x1 < x0 : y1 < y0;
+    int32_t x = is_turned ? x1 : x0;
+    int32_t y = is_turned ? y1 : y0;
+    int falls = is_turned ? (x_is_long ? y0 < y1 : x0 < x1) : (x_is_long ? y1 < y0 : x1 < x0);
+    int32_t step = falls ? -1 : 1;
     int32_t long_side = x_is_long ? across : down;
     int32_t short_side = x_is_long ? down : across;
-    int32_t error = long_side;
+    int32_t error = falls ? long_side - 1 : long_side;
     uint8_t colour = m->env->colour;
     struct area area = drawable(m->env);
 
     for (int32_t k = 0; k <= long_side; k++) {
-        paint(m, area, x0, y0, colour);
+        paint(m, area, x, y, colour);
         error += 2 * short_side;
         if (error >= 2 * long_side) {
             error -= 2 * long_side;
-            x0 += x_is_long ? 0 : step_x;
-            y0 += x_is_long ? step_y : 0;
+            x += x_is_long ? 0 : step;
+            y += x_is_long ? step : 0;
         }
-        x0 += x_is_long ? step_x : 0;
-        y0 += x_is_long ? 0 : step_y;
+        x += x_is_long ? 1 : 0;
+        y += x_is_long ? 0 : 1;
     }
 }
 
