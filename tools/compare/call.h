@@ -9,11 +9,11 @@ enum { MOST_WORDS = 65536, MOST_STEPS = 1000000, MOST_SIDE = 2048 };
 /* Room for lists and screens somewhat longer than any that is allowed. */
 enum { LIST_ROOM = MOST_WORDS + 64, SCREEN_ROOM = MOST_SIDE * MOST_SIDE + 4 * MOST_SIDE };
 
-/* Whatever is counted belongs to one of these groups. A call has at most one member of each, but for CLEARINGS: those
-   are counted for each CLRWIN on its way. */
+/* Whatever is counted belongs to one of these groups. A call has at most one member of each, but for the last three:
+   those are counted for each CLRWIN and each line on its way. */
 enum group {
     CALLS, LISTS, ENVIRONMENTS, BROKEN_FIELDS, SIZES, PANES, WINDOWS, MODES, BUDGETS, SCREENS,
-    DOOR_PAIRS, OPCODE_PAIRS, FRESH_CALLS, NUMBERS, CLEARINGS,
+    DOOR_PAIRS, OPCODE_PAIRS, FRESH_CALLS, NUMBERS, CLEARINGS, LINES, HALVES,
     GROUPS
 };
 
@@ -45,6 +45,12 @@ enum { SCREEN_RIGHT, SCREEN_SHORT, SCREEN_ONE_MORE, SCREEN_NONE, SCREEN_OTHER, S
 enum { FRESH_GOOD, FRESH_BAD_SIZE, FRESH_BAD_PANE, FRESH_BOTH_BAD, FRESH_KINDS };
 
 enum { CLEARING_SCREEN, CLEARING_ROWS, CLEARING_PARTS, CLEARING_NO_COLUMN, CLEARING_NO_ROW, CLEARING_KINDS };
+
+/* The long axis, whether the line was drawn from the smaller coordinate on it or from the larger, and whether the other
+   one rises from there: each of the first four is followed by two more. */
+enum { LINE_X_AHEAD, LINE_X_BACK = 3, LINE_Y_AHEAD = 6, LINE_Y_BACK = 9, LINE_DOT = 12, LINE_KINDS };
+enum { LINE_RISING, LINE_LEVEL, LINE_FALLING };
+enum { HALF_RISING, HALF_FALLING };
 
 enum { NOT_OF_A_KIND = -1, NO_EXPECTATION = -1 };
 

@@ -1,6 +1,7 @@
 #include "count.h"
 #include "forms.h"
 #include "libc.h"
+#include "lines.h"
 
 enum { MOST_MEMBERS = 20, STEPS_FOLLOWED = 200 };
 
@@ -29,6 +30,10 @@ static const struct {
     [NUMBERS] = { "numbers", { "0", "1", "10", "11", "12", "13", "14", "20", "21", "22", "23", "24", "25", "26", "27",
                                "28", "29" } },
     [CLEARINGS] = { "CLRWIN", { "whole screen", "whole rows", "parts of rows", "no column", "no row" } },
+    [LINES] = { "lines", { "x ahead rising", "x ahead level", "x ahead falling", "x back rising", "x back level",
+                           "x back falling", "y ahead rising", "y ahead level", "y ahead falling", "y back rising",
+                           "y back level", "y back falling", "one dot" } },
+    [HALVES] = { "lines with a dot halfway", { "rising", "falling" } },
 };
 
 static uint64_t kinds_met[GROUPS][MOST_MEMBERS];
@@ -95,17 +100,19 @@ static void count_clearing(uint16_t opcode, struct afgis_answer answer, const st
 static void count_forms(const struct call *call)
 {
     static uint8_t scratch[SCREEN_ROOM];
-    struct afgis_env env;
+    struct afgis_env env, before;
     struct afgis_answer answer = { 1, 1 };
 
     to_reference(&call->env, &env);
     for (uint32_t step = 0; answer.number == 1 && step < call->budget && step < STEPS_FOLLOWED; step++) {
-        uint32_t counter = env.counter;
+        before = env;
         answer = afgis_run(call->list, call->words, scratch, call->bytes, &env, 1);
-        if (counter < call->words) {
-            count_form(call->list[counter], answer);
-            count_clearing(call->list[counter], answer, &env);
+        if (before.counter < call->words) {
+            count_form(call->list[before.counter], answer);
+            count_clearing(call->list[before.counter], answer, &env);
         }
+        if (answer.steps == 1)
+            count_line(call->list + before.counter, &before, &env);
     }
 }
 
