@@ -1,5 +1,5 @@
 /*
- * Document 01's fourteen cases with their variants, and the numbers 10 to 14, through the C face of the
+ * Document 01's fourteen cases with their variants, request T-02's, and the numbers 10 to 14, through the C face of the
  * box. Each answer is checked whole: number, steps, every field of the environment, every byte.
  */
 
@@ -58,7 +58,13 @@ static const struct test tests[] = {
     { "9", 7, { 0x0074, 0x0000, 0x0000, 0x0000, 0x0004, 0x0002, 0x0001 }, 100, WHOLE, 0, 2,
       { { COUNTER, 0, 7 }, { STATE, 0, 1 } }, "#...." ".##.." "...##" },
     { "9 from the other end", 7, { 0x0074, 0x0000, 0x0004, 0x0002, 0x0000, 0x0000, 0x0001 }, 100, WHOLE, 0, 2,
-      { { COUNTER, 0, 7 }, { STATE, 0, 1 } }, "##..." "..##." "....#" },
+      { { COUNTER, 0, 7 }, { STATE, 0, 1 } }, "#...." ".##.." "...##" },
+    { "9 rubbed out from the other end", 16,
+      { 0x0074, 0x0000, 0x0000, 0x0000, 0x0004, 0x0002, 0x001F, 0x0000, 0x0000, 0x0074, 0x0000, 0x0004, 0x0002, 0x0000,
+        0x0000, 0x0001 },
+      100, WHOLE, 0, 4, { { COLOUR, 0, 0 }, { COUNTER, 0, 16 }, { STATE, 0, 1 } }, BLANK },
+    { "T-02, a line that falls", 7, { 0x0074, 0x0000, 0x0000, 0x0002, 0x0004, 0x0000, 0x0001 }, 100, WHOLE, 0, 2,
+      { { COUNTER, 0, 7 }, { STATE, 0, 1 } }, "....#" "..##." "##..." },
     { "9 as LINETO", 5, { 0x007C, 0x0000, 0x0004, 0x0002, 0x0001 }, 100, WHOLE, 0, 2,
       { { POSITION_X, 0, 4 }, { POSITION_Y, 0, 2 }, { COUNTER, 0, 5 }, { STATE, 0, 1 } }, "#...." ".##.." "...##" },
     { "10", 7, { 0x0074, 0x0000, 0x0000, 0x0000, 0x0004, 0x0002, 0x0001 }, 100, { 2, 0, 4, 2 }, 0, 2,
