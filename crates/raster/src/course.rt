@@ -56,6 +56,8 @@ fn course_from(flat: bool, n: u32, m: u32, p: Spot, q: Spot) -> Course
     }
 }
 
+// The course of the line between p and q: x is the long axis when the differences are equal, and the start is the end with
+// the smaller coordinate on it.
 pub fn course_of(p: Spot, q: Spot) -> Course
     ensures { λ r. ⌜ r ≡ courseOf p q ⌝ }
 {
