@@ -14,7 +14,9 @@ pub mod Pixels
 pub mod SomeBelow
 pub mod Sides
 pub mod Courses
+pub mod Spans
 pub mod Walks
+pub mod Paces
 pub mod Parts
 pub mod Rows
 pub mod Drawings

@@ -1,19 +1,19 @@
--- Laws of pixels: a byte's column and row, a dot that is stored or skipped, and one shape after another within a rectangle.
-use mathlib.Core.Path.{_≡_, sym, ap, ap₂, _∙_, subst₂}
-use mathlib.Core.Bool.{Bool, _&&_, _||_}
+-- Laws of pixels: a byte's column and row, and a dot that is stored or skipped.
+use mathlib.Core.Path.{_≡_, sym, ap, ap₂, _∙_, subst, subst₂}
+use mathlib.Core.Bool.{_&&_}
 use mathlib.Core.List.{List}
 use Prim.Native.Nat.{ℕ, _+_, _-_, _*_, _/_, _%_, _<_, _≤_}
 use native.Mathlib.Omega.{arith}
 use native.Mathlib.Nat.{mul-add-mod-self-right, mul-add-div-right, mod-eq-of-lt, div-eq-of-lt, div-add-mod', add-zero}
 use native.Mathlib.Nat.{mul-le-mul-right, mul-le-mul, add-mul, one-mul}
 use lib.Dec.{T, leb, eqb, leb→le, le→leb, eqb→eq}
-use lib.ListN.{set}
+use lib.ListN.{length, set}
 use Rattle.raster.specs.declared.moved.Spot.{Spot}
 use Rattle.raster.specs.declared.rect.Rect.{Rect}
 use Rattle.raster.specs.Moved.{dotB}
-use Rattle.raster.specs.Rects.{pixels, byteB, insideB, inRect, Room, Seen}
-use Rattle.raster.proofs.Tests.{both, left, right, four, quad, eq→T, and-or}
-use Rattle.raster.proofs.Recolour.{one, none, agree, twice}
+use Rattle.raster.specs.Rects.{pixels, byteB, insideB, inRect, Room, Placed, Seen}
+use Rattle.raster.proofs.Tests.{same, both, left, right, four, quad, eq→T}
+use Rattle.raster.proofs.Recolour.{one, none, agree}
 
 -- ---- a byte's column and row, and the byte of a column and a row
 pub column : (w x y : ℕ) → x < w → (y * w + x) % w ≡ x
@@ -36,6 +36,37 @@ module _ (r : Rect) (x y : ℕ) where
   is-inside a b c d =
       quad (leb (r .l) x) (leb x (r .r)) (leb (r .t) y) (leb y (r .b)) (le→leb (r .l) x a) (le→leb x (r .r) b) (le→leb (r .t) y c) (le→leb y (r .b) d)
 
+-- ---- a dot and its pixel
+module _ (p : Spot) (i j : ℕ) (t : T (dotB p i j)) where
+  -- the dot of a pixel is the pixel moved up
+  at-pixel : (p .x ≡ i + 65536) × (p .y ≡ j + 65536)
+  at-pixel =
+      let x = eqb→eq (p .x) (i + 65536) (left (eqb (p .x) (i + 65536)) (eqb (p .y) (j + 65536)) t) in
+      let y = eqb→eq (p .y) (j + 65536) (right (eqb (p .x) (i + 65536)) (eqb (p .y) (j + 65536)) t) in
+      (x, y)
+
+  -- the pixel is within r where the dot is
+  pub pixel-inside : (r : Rect) → insideB r (p .x) (p .y) ≡ inRect r i j
+  pixel-inside r = ap₂ (λ (x y : ℕ). insideB r x y) (at-pixel .0) (at-pixel .1)
+
+-- a dot that has a byte is one store
+pub stored : (w : ℕ) (p : Spot) (c : ℕ) (s : List ℕ) → Placed w p → set s (byteB w p) c ≡ pixels w (dotB p) c s
+stored w p c s q =
+    one (λ k. dotB p (k % w) (k / w)) c s (byteB w p)
+    (subst₂ (λ (i j : ℕ). T (dotB p i j)) (sym (column w x y (q .x-to))) (sym (row w x y (q .x-to)))
+    (both (eqb (p .x) (x + 65536)) (eqb (p .y) (y + 65536)) (eq→T (p .x) (x + 65536) (omega (arith, q .x-from))) (eq→T (p .y) (y + 65536) (omega (arith, q .y-from)))))
+    (λ k l u.
+    let e = at-pixel p (k % w) (k / w) u in
+    let i : k % w ≡ p .x - 65536 = omega arith in
+    let j : k / w ≡ p .y - 65536 = omega arith in
+    sym (byte w k) ∙ ap₂ (λ (a b : ℕ). a * w + b) j i)
+  where
+    x : ℕ
+    x = p .x - 65536
+
+    y : ℕ
+    y = p .y - 65536
+
 -- ---- a dot within a rectangle that has room in the screen
 module _ (w : ℕ) (r : Rect) (p : Spot) where
   pub seen : (s : List ℕ) → Room w r s → T (insideB r (p .x) (p .y)) → Seen w p s
@@ -44,50 +75,26 @@ module _ (w : ℕ) (r : Rect) (p : Spot) where
       let high : p .y - 65536 ≤ 2048 = omega (arith, h .to-bottom) in
       let whole : (p .y - 65536 + 1) * w ≤ (r .b - 65535) * w = mul-le-mul-right w (omega (arith, h .from-top)) in
       let part : (p .y - 65536 + 1) * w ≡ (p .y - 65536) * w + w = add-mul (p .y - 65536) 1 w ∙ ap (λ (u : ℕ). (p .y - 65536) * w + u) (one-mul w) in
-      record {
-        x-from = omega (arith, h .from-left);
-        y-from = omega (arith, h .from-top);
-        x-to = omega (arith, h .from-left, h .to-right);
-        narrow = h .narrow;
-        rows = mul-le-mul high (h .narrow);
-        index = omega (arith, h .from-left, h .to-right, h .down);
-      }
-
-  -- the dot of a pixel is the pixel moved up
-  at-pixel : (i j : ℕ) → T (dotB p i j) → (p .x ≡ i + 65536) × (p .y ≡ j + 65536)
-  at-pixel i j t =
-      let x = eqb→eq (p .x) (i + 65536) (left (eqb (p .x) (i + 65536)) (eqb (p .y) (j + 65536)) t) in
-      let y = eqb→eq (p .y) (j + 65536) (right (eqb (p .x) (i + 65536)) (eqb (p .y) (j + 65536)) t) in
-      (x, y)
+      let index : byteB w p < length s = omega (arith, h .from-left, h .to-right, h .down) in (
+        record {
+          x-from = omega (arith, h .from-left);
+          y-from = omega (arith, h .from-top);
+          x-to = omega (arith, h .from-left, h .to-right);
+          narrow = h .narrow;
+          rows = mul-le-mul high (h .narrow);
+        },
+        index,
+      )
 
   -- a dot that is seen is one store
-  pub stored : (c : ℕ) (s : List ℕ) → Room w r s → T (insideB r (p .x) (p .y))
+  pub stored-inside : (c : ℕ) (s : List ℕ) → Room w r s → T (insideB r (p .x) (p .y))
       → set s (byteB w p) c ≡ pixels w (λ i j. inRect r i j && dotB p i j) c s
-  stored c s h t =
-      one (λ k. inRect r (k % w) (k / w) && dotB p (k % w) (k / w)) c s (byteB w p)
-      (subst₂ (λ (i j : ℕ). T (inRect r i j && dotB p i j)) (sym (column w x y (q .x-to))) (sym (row w x y (q .x-to)))
-      (both (inRect r x y) (dotB p x y) (subst₂ (λ (i j : ℕ). T (insideB r i j)) ex ey t)
-      (both (eqb (p .x) (x + 65536)) (eqb (p .y) (y + 65536)) (eq→T (p .x) (x + 65536) ex) (eq→T (p .y) (y + 65536) ey))))
-      (λ k l u.
-      let e = at-pixel (k % w) (k / w) (right (inRect r (k % w) (k / w)) (dotB p (k % w) (k / w)) u) in
-      let i : k % w ≡ p .x - 65536 = omega arith in
-      let j : k / w ≡ p .y - 65536 = omega arith in
-      sym (byte w k) ∙ ap₂ (λ (a b : ℕ). a * w + b) j i)
-    where
-      q : Seen w p s
-      q = seen s h t
-
-      x : ℕ
-      x = p .x - 65536
-
-      y : ℕ
-      y = p .y - 65536
-
-      ex : p .x ≡ p .x - 65536 + 65536
-      ex = omega (arith, q .x-from)
-
-      ey : p .y ≡ p .y - 65536 + 65536
-      ey = omega (arith, q .y-from)
+  stored-inside c s h t =
+      stored w p c s (seen s h t .0)
+      ∙ agree (λ k. dotB p (k % w) (k / w)) (λ k. inRect r (k % w) (k / w) && dotB p (k % w) (k / w)) c s
+      (λ k _. same (dotB p (k % w) (k / w)) (inRect r (k % w) (k / w) && dotB p (k % w) (k / w))
+      (λ u. both (inRect r (k % w) (k / w)) (dotB p (k % w) (k / w)) (subst T (pixel-inside p (k % w) (k / w) u r) t) u)
+      (right (inRect r (k % w) (k / w)) (dotB p (k % w) (k / w))))
 
   -- a dot that is not within r is none
   pub skipped : (c : ℕ) (s : List ℕ) → (T (insideB r (p .x) (p .y)) → ⊥) → s ≡ pixels w (λ i j. inRect r i j && dotB p i j) c s
@@ -96,19 +103,4 @@ module _ (w : ℕ) (r : Rect) (p : Spot) where
       (λ k l u.
       let i = k % w in
       let j = k / w in
-      let e = at-pixel i j (right (inRect r i j) (dotB p i j) u) in
-      n (subst₂ (λ (x y : ℕ). T (insideB r x y)) (sym (e .0)) (sym (e .1)) (left (inRect r i j) (dotB p i j) u)))
-
--- ---- a loop that paints: no shape yet, and one shape more
-module _ (w : ℕ) (r : Rect) where
-  pub empty : (B : ℕ → ℕ → Bool) (c : ℕ) (s : List ℕ) → ((i j : ℕ) → T (B i j) → ⊥) → s ≡ pixels w (λ i j. inRect r i j && B i j) c s
-  empty B c s n =
-      none (λ k. inRect r (k % w) (k / w) && B (k % w) (k / w)) c s (λ k l t. n (k % w) (k / w) (right (inRect r (k % w) (k / w)) (B (k % w) (k / w)) t))
-
-  pub grow : (B D E : ℕ → ℕ → Bool) (c : ℕ) (s : List ℕ) → ((k : ℕ) → (B (k % w) (k / w) || D (k % w) (k / w)) ≡ E (k % w) (k / w))
-      → pixels w (λ i j. inRect r i j && D i j) c (pixels w (λ i j. inRect r i j && B i j) c s) ≡ pixels w (λ i j. inRect r i j && E i j) c s
-  grow B D E c s e =
-      twice (λ k. inRect r (k % w) (k / w) && B (k % w) (k / w)) (λ k. inRect r (k % w) (k / w) && D (k % w) (k / w)) c s
-      ∙ agree (λ k. inRect r (k % w) (k / w) && B (k % w) (k / w) || (inRect r (k % w) (k / w) && D (k % w) (k / w)))
-      (λ k. inRect r (k % w) (k / w) && E (k % w) (k / w)) c s
-      (λ k l. sym (and-or (inRect r (k % w) (k / w)) (B (k % w) (k / w)) (D (k % w) (k / w))) ∙ ap (λ (t : Bool). inRect r (k % w) (k / w) && t) (e k))
+      n (subst T (sym (pixel-inside p i j (right (inRect r i j) (dotB p i j) u) r)) (left (inRect r i j) (dotB p i j) u)))

@@ -1,13 +1,15 @@
 -- Laws of `side`, and of `offset`, which is its size: only these look inside the rule.
 use mathlib.Core.Path.{_≡_, refl, sym, ap, _∙_}
+use mathlib.Core.Bool.{Bool, true, false}
 use Prim.Native.Nat.{ℕ, zero, suc, _+_, _-_, _*_, _/_, _<_, _≤_}
 use native.Mathlib.Omega.{arith}
 use native.Mathlib.Decide.{decLt}
-use native.Mathlib.Nat.{div-eq-of-lt-le, mul-comm, div-lt-iff-lt-mul, add-mul, mul-add, one-mul, div-zero, div-eq-of-lt, add-div-right, le-of-eq, mul-le-mul-right, zero-add}
+use native.Mathlib.Nat.{div-eq-of-lt-le, mul-comm, div-lt-iff-lt-mul, add-mul, mul-add, one-mul, div-zero, div-eq-of-lt, add-div-right, le-of-eq, le-trans, mul-le-mul-right, zero-add}
 use native.Mathlib.Numerals.{add-one}
 use lib.IntN.{ℤ, pos, negsuc, negℤ, natAbs, subℕ, _+ℤ_, zero-*ℤ}
+use Rattle.raster.specs.declared.course.Course.{Course}
 use Rattle.raster.specs.Line.{floor, side}
-use Rattle.raster.specs.Courses.{offset}
+use Rattle.raster.specs.Courses.{half, offset, offsetOf, Fair}
 use Rattle.raster.proofs.Coordinates.{sub-ge, sub-lt}
 
 -- ---- offset
@@ -45,6 +47,18 @@ offset-first (suc n) m h g = sym (is-offset (suc n) m h 0 0 h (omega arith) (ome
 offset-last : (n m h : ℕ) → m ≤ n → h ≤ n → offset n m h n ≡ m
 offset-last zero m h l g = offset-none m h 0 ∙ omega arith
 offset-last (suc n) m h l g = sym (is-offset (suc n) m h (suc n) m h refl (omega arith))
+
+-- ---- offset, of a course
+pub half-le : (t : Bool) (n : ℕ) → half t n ≤ n
+half-le true n = omega arith
+half-le false n = omega arith
+
+pub offset-to : (l : Course) (k : ℕ) → k ≤ l .n → offsetOf l k ≤ l .m
+offset-to l k h = offset-le (l .n) (l .m) (half (l .up) (l .n)) k (half-le (l .up) (l .n)) h
+
+-- no dot falls below 0
+pub offset-down : (l : Course) → Fair l → (k : ℕ) → k ≤ l .n → l .up ≡ false → offsetOf l k ≤ l .across
+offset-down l f k h e = le-trans (offset-to l k h) (f .deep e)
 
 -- ---- side: `offset` up where the difference is not negative, and down where it is
 pub side-up : (n d k : ℕ) → side n (pos d) k ≡ pos (offset n d n k)

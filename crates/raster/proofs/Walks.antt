@@ -1,69 +1,76 @@
--- Laws of a walk: none of its dots is painted yet, one dot more, all of the line's; and the step from one dot to the next.
-use mathlib.Core.Path.{_≡_, sym, ap, _∙_, subst, subst⁻¹}
-use mathlib.Core.Bool.{Bool, true, false, _&&_, _||_}
+-- Laws of a walk: none of its dots is painted yet, and one dot more; where it begins, and the step from one dot to the next.
+use mathlib.Core.Path.{_≡_, refl, sym, ap, _∙_, subst, subst⁻¹}
+use mathlib.Core.Bool.{Bool, _&&_, _||_}
 use mathlib.Core.List.{List}
-use Prim.Native.Nat.{ℕ, suc, _+_, _*_, _/_, _%_, _≤_}
+use Prim.Native.Nat.{ℕ, suc, _+_, _*_, _/_, _%_, _<_, _≤_}
 use native.Mathlib.Omega.{arith}
-use native.Mathlib.Nat.{add-mul}
+use native.Mathlib.Nat.{add-mul, lt-of-lt-of-le, div-add-mod, mod-lt}
 use lib.Dec.{T, leb}
+use lib.ListN.{set}
 use borrow.Author.Tests.{le-leb, lt-leb}
 use Rattle.raster.specs.declared.course.Course.{Course}
-use Rattle.raster.specs.declared.rect.Rect.{Rect}
 use Rattle.raster.specs.Shapes.{someBelow}
 use Rattle.raster.specs.Moved.{dotB}
-use Rattle.raster.specs.Rects.{pixels, inRect}
-use Rattle.raster.specs.Courses.{half, lineSpot, lineB}
-use Rattle.raster.specs.Walks.{stretchB, Reached, Stepped}
-use Rattle.raster.proofs.SomeBelow.{some-same, some-none}
-use Rattle.raster.proofs.Pixels.{grow, empty}
-use Rattle.raster.proofs.Sides.{is-offset, offset-first, offset-le}
+use Rattle.raster.specs.Rects.{pixels, byteB, Placed}
+use Rattle.raster.specs.Courses.{half, offset, lineSpot}
+use Rattle.raster.specs.Walks.{stretchB, Reached}
+use Rattle.raster.proofs.Recolour.{none, agree, twice}
+use Rattle.raster.proofs.SomeBelow.{some-none}
+use Rattle.raster.proofs.Pixels.{stored}
+use Rattle.raster.proofs.Sides.{is-offset, offset-first, half-le, offset-to}
 
 -- ---- the dots from a on, before b
--- the screen with these painted, where they are within r
-abbrev pub stretched : ℕ → Rect → Course → ℕ → ℕ → ℕ → List ℕ → List ℕ
-stretched w r l a b c s = pixels w (λ i j. inRect r i j && stretchB l a b i j) c s
+-- the screen with these painted
+abbrev pub stretched : ℕ → Course → ℕ → ℕ → ℕ → List ℕ → List ℕ
+stretched w l a b c s = pixels w (stretchB l a b) c s
 
-module _ (w : ℕ) (r : Rect) (l : Course) (a c : ℕ) (s : List ℕ) where
-  pub none-yet : s ≡ stretched w r l a a c s
+module _ (w : ℕ) (l : Course) (a c : ℕ) (s : List ℕ) where
+  pub none-yet : (b : ℕ) → b ≤ a → s ≡ stretched w l a b c s
   unfolding stretchB
-  none-yet =
-      empty w r (stretchB l a a) c s
-      (λ i j t.
+  none-yet b h =
+      none (λ k. stretchB l a b (k % w) (k / w)) c s
+      (λ k _ t.
       subst T
-      (some-none a (λ k. leb a k && dotB (lineSpot l k) i j) (λ k h. ap (λ (b : Bool). b && dotB (lineSpot l k) i j) (lt-leb a k h)))
+      (some-none b (λ j. leb a j && dotB (lineSpot l j) (k % w) (k / w))
+      (λ j g. ap (λ (u : Bool). u && dotB (lineSpot l j) (k % w) (k / w)) (lt-leb a j (lt-of-lt-of-le g h))))
       t)
 
-  pub one-more : (k : ℕ) → a ≤ k → pixels w (λ i j. inRect r i j && dotB (lineSpot l k) i j) c (stretched w r l a k c s) ≡ stretched w r l a (suc k) c s
+  one-more : (k : ℕ) → a ≤ k → pixels w (dotB (lineSpot l k)) c (stretched w l a k c s) ≡ stretched w l a (suc k) c s
   unfolding stretchB someBelow
   one-more k h =
-      grow w r (stretchB l a k) (dotB (lineSpot l k)) (stretchB l a (suc k)) c s
-      (λ b. ap (λ (t : Bool). stretchB l a k (b % w) (b / w) || (t && dotB (lineSpot l k) (b % w) (b / w))) (sym (le-leb a k h)))
+      twice (λ b. stretchB l a k (b % w) (b / w)) (λ b. dotB (lineSpot l k) (b % w) (b / w)) c s
+      ∙ agree (λ b. stretchB l a k (b % w) (b / w) || dotB (lineSpot l k) (b % w) (b / w)) (λ b. stretchB l a (suc k) (b % w) (b / w)) c s
+      (λ b _. ap (λ (t : Bool). stretchB l a k (b % w) (b / w) || (t && dotB (lineSpot l k) (b % w) (b / w))) (sym (le-leb a k h)))
 
-pub whole : (l : Course) (i j : ℕ) → stretchB l 0 (suc (l .n)) i j ≡ lineB l i j
-unfolding stretchB lineB
-whole l i j =
-    some-same (suc (l .n)) (λ k. leb 0 k && dotB (lineSpot l k) i j) (λ k. dotB (lineSpot l k) i j)
-    (λ k h. ap (λ (t : Bool). t && dotB (lineSpot l k) i j) (le-leb 0 k (omega arith)))
+  -- dot k stored, where those before it are painted
+  pub put : (k at : ℕ) (t : List ℕ) → a ≤ k → at ≡ byteB w (lineSpot l k) → Placed w (lineSpot l k) → t ≡ stretched w l a k c s
+      → set t at c ≡ stretched w l a (suc k) c s
+  put k at t h e p q =
+      ap (λ (b : ℕ). set t b c) e ∙ stored w (lineSpot l k) c t p ∙ ap (λ (u : List ℕ). pixels w (dotB (lineSpot l k)) c u) q ∙ one-more k h
 
--- ---- how far aside a dot is: at the start, at the next dot, and never further than the end
-half-le : (t : Bool) (n : ℕ) → half t n ≤ n
-half-le true n = omega arith
-half-le false n = omega arith
-
+-- ---- how far aside a dot is: at the start, at any dot, at the next one, and never further than the end
 pub begin : (l : Course) → Reached l 0 0 (half (l .up) (l .n))
 begin l =
     let g = half-le (l .up) (l .n) in
     record { sum = omega arith; left = omega (arith, g); is-offset = sym (offset-first (l .n) (l .m) (half (l .up) (l .n)) g) }
 
-pub go : (l : Course) (k q e q′ e′ : ℕ) → Reached l k q e → Stepped (l .n) (l .m) q e q′ e′ → Reached l (k + 1) q′ e′
-go l k q e q′ e′ r s =
-    record { sum = again; left = omega (arith, s .left); is-offset = is-offset (l .n) (l .m) (half (l .up) (l .n)) (k + 1) q′ e′ again (s .left) }
+-- dot k by a division
+pub reached : (l : Course) (k : ℕ) → 0 < l .n → let t = 2 * k * l .m + half (l .up) (l .n) in Reached l k (t / (2 * l .n)) (t % (2 * l .n))
+unfolding offset
+reached l k p =
+    let t = 2 * k * l .m + half (l .up) (l .n) in
+    record { sum = div-add-mod t (2 * l .n); left = omega (arith, mod-lt t {m = 2 * l .n} (omega arith)); is-offset = refl }
+
+-- 2m more
+pub go : (l : Course) (k q e q′ e′ : ℕ) → Reached l k q e → 2 * l .n * q′ + e′ ≡ 2 * l .n * q + e + 2 * l .m → e′ < 2 * l .n → Reached l (k + 1) q′ e′
+go l k q e q′ e′ r s b =
+    record { sum = again; left = omega arith; is-offset = is-offset (l .n) (l .m) (half (l .up) (l .n)) (k + 1) q′ e′ again b }
   where
     two-more : 2 * (k + 1) * l .m ≡ 2 * k * l .m + 2 * l .m
     two-more = ap (λ (a : ℕ). a * l .m) (omega arith) ∙ add-mul (2 * k) 2 (l .m)
 
     again : 2 * l .n * q′ + e′ ≡ 2 * (k + 1) * l .m + half (l .up) (l .n)
-    again = omega (arith, r .sum, s .sum, two-more)
+    again = omega (arith, r .sum, s, two-more)
 
 pub at-most : (l : Course) (k q e : ℕ) → k ≤ l .n → Reached l k q e → q ≤ l .m
-at-most l k q e h r = subst⁻¹ (λ (a : ℕ). a ≤ l .m) (r .is-offset) (offset-le (l .n) (l .m) (half (l .up) (l .n)) k (half-le (l .up) (l .n)) h)
+at-most l k q e h r = subst⁻¹ (λ (a : ℕ). a ≤ l .m) (r .is-offset) (offset-to l k h)

@@ -10,4 +10,5 @@ pub mod Moved
 pub mod Rects
 pub mod Parts
 pub mod Courses
+pub mod Spans
 pub mod Walks

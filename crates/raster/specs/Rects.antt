@@ -53,11 +53,14 @@ pub record Room (w : ℕ) (r : Rect) (s : List ℕ) : Type 0 where
   pub to-bottom : r .b < 2048 + 65536
   pub down : (r .b - 65535) * w ≤ length s
 
--- the dot p lies within a screen w wide whose bytes are s
-pub record Seen (w : ℕ) (p : Spot) (s : List ℕ) : Type 0 where
+-- the dot p has a byte on a screen w wide
+pub record Placed (w : ℕ) (p : Spot) : Type 0 where
   pub x-from : 65536 ≤ p .x
   pub y-from : 65536 ≤ p .y
   pub x-to : p .x - 65536 < w
   pub narrow : w ≤ 2048
   pub rows : (p .y - 65536) * w ≤ 2048 * 2048
-  pub index : byteB w p < length s
+
+-- the dot p lies within a screen w wide whose bytes are s
+abbrev pub Seen : ℕ → Spot → List ℕ → Type 0
+Seen w p s = Placed w p × (byteB w p < length s)

@@ -21,13 +21,13 @@ pub struct Course {
     pub m: u32,
 }
 
-fn along_of(flat: bool, p: Spot) -> u32
+pub fn along_of(flat: bool, p: Spot) -> u32
     ensures { λ r. ⌜ r ≡ alongB flat p ⌝ }
 {
     if flat { p.x } else { p.y }
 }
 
-fn across_of(flat: bool, p: Spot) -> u32
+pub fn across_of(flat: bool, p: Spot) -> u32
     ensures { λ r. ⌜ r ≡ acrossB flat p ⌝ }
 {
     if flat { p.y } else { p.x }

@@ -6,4 +6,6 @@ pub mod fill; // every drawable dot
 mod moved; // coordinates as unsigned numbers
 mod course; // a line from its start along the long axis
 mod rect; // the drawable columns and rows
+mod span; // the dots of a course within a rectangle
+mod walk; // from dot to dot
 mod part; // parts of the screen whose bytes lie side by side

@@ -2,7 +2,7 @@
 use crate::dots::Dot;
 ghost use mathlib.Core.Path.{_≡_};
 ghost use mathlib.Core.Bool.{false};
-ghost use Prim.Native.Nat.{_-_, _<_, _≤_, min, max};
+ghost use Prim.Native.Nat.{_-_, _*_, _<_, _≤_, min, max};
 ghost use Rattle.raster.specs.Frame.{Coord};
 ghost use Rattle.raster.specs.Moved.{bias, spotOf, gapB, aside};
 
@@ -59,4 +59,18 @@ pub fn aside_of(up: bool, b: u32, q: u32) -> u32
     ensures { λ r. ⌜ r ≡ aside up b q ⌝ }
 {
     if up { b + q } else { b - q }
+}
+
+pub fn wide(a: u32) -> u64
+    ensures { λ r. ⌜ r ≡ a ⌝ }
+{
+    a as u64
+}
+
+// 2ab.
+pub fn twice_of(a: u32, b: u32) -> u64
+    requires { ⌜ (a < 131072) × (b < 131072) ⌝ }
+    ensures { λ r. ⌜ (r ≡ 2 * a * b) × (r < 34359738368) ⌝ }
+{
+    2 * wide(a) * wide(b)
 }

@@ -1,4 +1,4 @@
-// Rectangles of points that are moved up: the drawable points, and a dot painted within a rectangle.
+// Rectangles of points that are moved up: the drawable points, and a dot's byte.
 use crate::frame::Frame;
 use crate::frame::Pane;
 use crate::frame::Window;
@@ -7,12 +7,10 @@ use crate::moved::biased;
 use crate::moved::larger;
 use crate::moved::smaller;
 ghost use mathlib.Core.Path.{_≡_};
-ghost use mathlib.Core.Bool.{_&&_};
 ghost use Prim.Native.Nat.{_<_};
 ghost use lib.ListN.{set};
 ghost use Rattle.raster.specs.Frame.{Coord, Sane};
-ghost use Rattle.raster.specs.Moved.{dotB};
-ghost use Rattle.raster.specs.Rects.{pixels, byteB, insideB, inRect, paneRect, windowRect, overlapOf, rectOf, Room, Seen};
+ghost use Rattle.raster.specs.Rects.{byteB, insideB, paneRect, windowRect, overlapOf, rectOf, Placed, Seen};
 
 // Columns l to r of rows t to b, both ends inside: none where l is above r, or t above b.
 pub struct Rect {
@@ -100,22 +98,19 @@ pub fn visible(f: Frame, p: Spot) -> bool
     inside(window_rect(f.window), p)
 }
 
+// The dot's byte on a screen of w columns.
+pub fn byte_of(w: u32, p: Spot) -> usize
+    requires { ⌜ Placed w p ⌝ }
+    ensures { λ r. ⌜ r ≡ byteB w p ⌝ }
+{
+    ((p.y - 65536) * w + (p.x - 65536)) as usize
+}
+
 // Paints the dot, which lies within the screen of w columns.
 pub fn store(screen: &mut [u8], w: u32, p: Spot, c: u8)
     requires { ⌜ Seen w p (now screen) ⌝ }
     ensures { λ _. ⌜ now (screen .exit) ≡ set (now (screen .entry)) (byteB w p) c ⌝ }
 {
-    let at = ((p.y - 65536) * w + (p.x - 65536)) as usize;
+    let at = byte_of(w, p);
     screen[at] = c;
-}
-
-// Paints the dot where it is within r, which lies within the screen of w columns.
-pub fn plot_in(screen: &mut [u8], w: u32, r: Rect, p: Spot, c: u8)
-    requires { ⌜ Room w r (now screen) ⌝ }
-    ensures { λ _.
-        ⌜ now (screen .exit) ≡ pixels w (λ i j. inRect r i j && dotB p i j) c (now (screen .entry)) ⌝ }
-{
-    if inside(r, p) {
-        store(screen, w, p, c);
-    }
 }

@@ -9,7 +9,7 @@ use Rattle.raster.specs.Paint.{paint}
 use Rattle.raster.specs.Moved.{spotOf, dotB}
 use Rattle.raster.specs.Rects.{pixels, insideB, inRect, rectOf}
 use Rattle.raster.proofs.Rectangles.{room}
-use Rattle.raster.proofs.Pixels.{seen, stored, skipped}
+use Rattle.raster.proofs.Pixels.{seen, stored-inside, skipped}
 use Rattle.raster.proofs.Drawings.{painted, dot-is}
 use Rattle.raster.proofs.dots.plot.Statement.{statement}
 use Rattle.raster.proofs.dots.plot.Tie as tie
@@ -54,7 +54,7 @@ returns c =
     let s = S v in
     let g = s .args in
     p .store .ensures
-    ∙ stored (g .f .bounds .width) (rectOf (g .f)) (v .before .spot-of .result) (g .c) (g .screen .now) (room (g .f) (g .screen .now) (s .pre .0)) (within t)
+    ∙ stored-inside (g .f .bounds .width) (rectOf (g .f)) (v .before .spot-of .result) (g .c) (g .screen .now) (room (g .f) (g .screen .now) (s .pre .0)) (within t)
     ∙ as-painted v
 
 returns-2 : tie.Need-returns-2

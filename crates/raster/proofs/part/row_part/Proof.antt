@@ -18,10 +18,10 @@ sub-at : tie.Need-sub-at
 sub-at c = search needs
 
 mul-at : tie.Need-mul-at
-mul-at c = omega (arith, last c .rows)
+mul-at c = omega (arith, last c .0 .rows)
 
 cast-at : tie.Need-cast-at
-cast-at c = omega (arith, last c .rows)
+cast-at c = omega (arith, last c .0 .rows)
 
 sub-set-bytes : tie.Need-sub-set-bytes
 sub-set-bytes c = search needs
@@ -30,7 +30,7 @@ cast-set-bytes : tie.Need-cast-set-bytes
 cast-set-bytes c = search needs
 
 add-set-bytes : tie.Need-add-set-bytes
-add-set-bytes c = omega (arith, last (c .before))
+add-set-bytes c = omega (arith, last (c .before) .0, last (c .before) .1)
 
 sub-set-bytes-2 : tie.Need-sub-set-bytes-2
 sub-set-bytes-2 c = search needs
@@ -39,10 +39,10 @@ cast-set-bytes-2 : tie.Need-cast-set-bytes-2
 cast-set-bytes-2 c = search needs
 
 add-set-bytes-2 : tie.Need-add-set-bytes-2
-add-set-bytes-2 c = omega (arith, last (c .before))
+add-set-bytes-2 c = omega (arith, last (c .before) .0, last (c .before) .1)
 
 set-bytes-requires : tie.Need-set-bytes-requires
-set-bytes-requires c κs = omega (arith, last (c .before))
+set-bytes-requires c κs = omega (arith, last (c .before) .0, last (c .before) .1)
 
 same-length : tie.Need-same-length
 same-length c = search needs
