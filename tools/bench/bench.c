@@ -99,6 +99,19 @@ static void make_far_lines(void)
     put(0x0001);
 }
 
+/* All x, and nearly all y, in either direction. */
+static void make_long_lines(void)
+{
+    for (int i = 0; i < 200; i++) {
+        int32_t y0 = -32768 + between(0, 300), y1 = 32767 - between(0, 300);
+        if (between(0, 1))
+            put_line(-32768, y0, 32767, y1);
+        else
+            put_line(32767, y1, -32768, y0);
+    }
+    put(0x0001);
+}
+
 static void make_dots(void)
 {
     for (int i = 0; i < 20000; i++) {
@@ -123,12 +136,14 @@ static void make_clear(void)
 
 #define WHOLE(width, height) width, height, { 0, 0, width - 1, height - 1 }
 #define PANE(width, height) width, height, { 400, 300, 599, 449 }
+#define COLUMNS(width, height) width, height, { 400, 0, 409, height - 1 }
 
 static const struct work works[] = {
     { "arithmetic loop", make_loop, WHOLE(WIDTH, HEIGHT), 4, 0 },
     { "lines on the screen", make_lines, WHOLE(WIDTH, HEIGHT), 4, 0 },
     { "short lines, up to 8 dots", make_short_lines, WHOLE(WIDTH, HEIGHT), 10, 0 },
     { "lines mostly outside the pane", make_far_lines, PANE(WIDTH, HEIGHT), 1, 0 },
+    { "lines of 65,536 dots through ten columns", make_long_lines, COLUMNS(WIDTH, HEIGHT), 1, 0 },
     { "single dots", make_dots, WHOLE(WIDTH, HEIGHT), 20, 0 },
     { "CLRWIN, a whole screen of 2,048 x 2,048", make_clear, WHOLE(2048, 2048), 2, 1 },
     { "CLRWIN, a whole screen of 640 x 480", make_clear, WHOLE(640, 480), 20, 1 },
