@@ -9,11 +9,11 @@ enum { MOST_WORDS = 65536, MOST_STEPS = 1000000, MOST_SIDE = 2048 };
 /* Room for lists and screens somewhat longer than any that is allowed. */
 enum { LIST_ROOM = MOST_WORDS + 64, SCREEN_ROOM = MOST_SIDE * MOST_SIDE + 4 * MOST_SIDE };
 
-/* Whatever is counted belongs to one of these groups. A call has at most one member of each, but for the last three:
+/* Whatever is counted belongs to one of these groups. A call has at most one member of each, but for the last four:
    those are counted for each CLRWIN and each line on its way. */
 enum group {
     CALLS, LISTS, ENVIRONMENTS, BROKEN_FIELDS, SIZES, PANES, WINDOWS, MODES, BUDGETS, SCREENS,
-    DOOR_PAIRS, OPCODE_PAIRS, FRESH_CALLS, NUMBERS, CLEARINGS, LINES, HALVES,
+    DOOR_PAIRS, OPCODE_PAIRS, FRESH_CALLS, NUMBERS, CLEARINGS, LINES, HALVES, CUTS,
     GROUPS
 };
 
@@ -51,6 +51,10 @@ enum { CLEARING_SCREEN, CLEARING_ROWS, CLEARING_PARTS, CLEARING_NO_COLUMN, CLEAR
 enum { LINE_X_AHEAD, LINE_X_BACK = 3, LINE_Y_AHEAD = 6, LINE_Y_BACK = 9, LINE_DOT = 12, LINE_KINDS };
 enum { LINE_RISING, LINE_LEVEL, LINE_FALLING };
 enum { HALF_RISING, HALF_FALLING };
+
+/* Which dots of a line are not drawable: none, all, or those before its first drawable dot and those behind its last, where
+   its place on the long axis is outside or on the other one. */
+enum { CUT_NOWHERE, CUT_TO_NOTHING, CUT_START_LONG, CUT_START_OTHER, CUT_END_LONG, CUT_END_OTHER };
 
 enum { NOT_OF_A_KIND = -1, NO_EXPECTATION = -1 };
 

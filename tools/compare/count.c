@@ -1,3 +1,4 @@
+#include "area.h"
 #include "count.h"
 #include "forms.h"
 #include "libc.h"
@@ -34,6 +35,8 @@ static const struct {
                            "x back falling", "y ahead rising", "y ahead level", "y ahead falling", "y back rising",
                            "y back level", "y back falling", "one dot" } },
     [HALVES] = { "lines with a dot halfway", { "rising", "falling" } },
+    [CUTS] = { "lines cut", { "nowhere", "to nothing", "at the start by the long axis", "at the start by the other",
+                              "at the end by the long axis", "at the end by the other" } },
 };
 
 static uint64_t kinds_met[GROUPS][MOST_MEMBERS];
@@ -70,24 +73,18 @@ static void count_form(uint16_t opcode, struct afgis_answer answer)
         forms_refused[form][answer.number - 20]++;
 }
 
-/* What CLRWIN paints: the pane and, in modes 1 and 2, only the window's columns and rows of it. */
+/* What CLRWIN paints. */
 static int clearing_of(const struct afgis_env *env)
 {
-    int64_t left = env->left, top = env->top, right = env->right, bottom = env->bottom;
+    struct area area = area_of(env);
 
-    if (env->mode != 0) {
-        left = env->x0 > left ? env->x0 : left;
-        top = env->y0 > top ? env->y0 : top;
-        right = env->x1 < right ? env->x1 : right;
-        bottom = env->y1 < bottom ? env->y1 : bottom;
-    }
-    if (left > right)
+    if (area.left > area.right)
         return CLEARING_NO_COLUMN;
-    if (top > bottom)
+    if (area.top > area.bottom)
         return CLEARING_NO_ROW;
-    if (left > 0 || right < (int64_t)env->width - 1)
+    if (area.left > 0 || area.right < (int64_t)env->width - 1)
         return CLEARING_PARTS;
-    return top > 0 || bottom < (int64_t)env->height - 1 ? CLEARING_ROWS : CLEARING_SCREEN;
+    return area.top > 0 || area.bottom < (int64_t)env->height - 1 ? CLEARING_ROWS : CLEARING_SCREEN;
 }
 
 static void count_clearing(uint16_t opcode, struct afgis_answer answer, const struct afgis_env *env)

@@ -1,4 +1,5 @@
 #include "lines.h"
+#include "area.h"
 #include "count.h"
 
 struct ends {
@@ -54,6 +55,57 @@ static void count_slope(int kind, int64_t along, int64_t aside)
         count_kind(HALVES, rise > 0 ? HALF_RISING : HALF_FALLING);
 }
 
+/* A line from its end with the smaller coordinate on the long axis. What may be painted is turned with it: left and right
+   are on the long axis, top and bottom on the other. */
+struct course {
+    int64_t along, across, n, difference;
+    struct area area;
+};
+
+static struct course course_of(struct ends ends, struct area area)
+{
+    struct course course = { ends.x0, ends.y0, (int64_t)ends.x1 - ends.x0, (int64_t)ends.y1 - ends.y0, area };
+
+    if (size(course.n) < size(course.difference))
+        course = (struct course){ ends.y0, ends.x0, course.difference, course.n,
+                                  { area.top, area.left, area.bottom, area.right } };
+    if (course.n < 0)
+        course = (struct course){ course.along + course.n, course.across + course.difference, -course.n,
+                                  -course.difference, course.area };
+    return course;
+}
+
+/* Dot k's place on the other axis is inside. */
+static int is_inside(const struct course *course, int64_t k)
+{
+    int64_t dividend = 2 * k * course->difference + course->n, divisor = 2 * course->n;
+    int64_t aside = course->n == 0 ? 0 : dividend / divisor - (dividend % divisor < 0);
+
+    return course->area.top <= course->across + aside && course->across + aside <= course->area.bottom;
+}
+
+static void count_cuts(struct course course)
+{
+    int64_t low = course.area.left > course.along ? course.area.left - course.along : 0;
+    int64_t high = course.area.right < course.along + course.n ? course.area.right - course.along : course.n;
+    int64_t first = low, last = high;
+
+    while (first <= high && !is_inside(&course, first))
+        first++;
+    if (first > high) {
+        count_kind(CUTS, CUT_TO_NOTHING);
+        return;
+    }
+    while (!is_inside(&course, last))
+        last--;
+    if (first == 0 && last == course.n)
+        count_kind(CUTS, CUT_NOWHERE);
+    if (first > 0)
+        count_kind(CUTS, first == low ? CUT_START_LONG : CUT_START_OTHER);
+    if (last < course.n)
+        count_kind(CUTS, last == high ? CUT_END_LONG : CUT_END_OTHER);
+}
+
 void count_line(const uint16_t *opcode, const struct afgis_env *before, const struct afgis_env *after)
 {
     struct ends ends;
@@ -69,4 +121,5 @@ void count_line(const uint16_t *opcode, const struct afgis_env *before, const st
         count_slope(LINE_X_AHEAD, dx, dy);
     else
         count_slope(LINE_Y_AHEAD, dy, dx);
+    count_cuts(course_of(ends, area_of(before)));
 }
