@@ -1,6 +1,6 @@
 /*
- * Document 01's fourteen cases with their variants, request T-02's, and the numbers 10 to 14, through the C face of the
- * box. Each answer is checked whole: number, steps, every field of the environment, every byte.
+ * Document 01's fourteen cases with their variants, request T-02's, a line that is mostly outside, and the numbers 10 to 14,
+ * through the C face of the box. Each answer is checked whole: number, steps, every field of the environment, every byte.
  */
 
 #include "libc.h"
@@ -65,6 +65,8 @@ static const struct test tests[] = {
       100, WHOLE, 0, 4, { { COLOUR, 0, 0 }, { COUNTER, 0, 16 }, { STATE, 0, 1 } }, BLANK },
     { "T-02, a line that falls", 7, { 0x0074, 0x0000, 0x0000, 0x0002, 0x0004, 0x0000, 0x0001 }, 100, WHOLE, 0, 2,
       { { COUNTER, 0, 7 }, { STATE, 0, 1 } }, "....#" "..##." "##..." },
+    { "all coordinates through two columns", 7, { 0x0074, 0x0000, 0x7FFF, 0x8003, 0x8003, 0x7FFF, 0x0001 }, 100,
+      { 1, 0, 2, 2 }, 0, 2, { { COUNTER, 0, 7 }, { STATE, 0, 1 } }, "..#.." ".#..." "....." },
     { "9 as LINETO", 5, { 0x007C, 0x0000, 0x0004, 0x0002, 0x0001 }, 100, WHOLE, 0, 2,
       { { POSITION_X, 0, 4 }, { POSITION_Y, 0, 2 }, { COUNTER, 0, 5 }, { STATE, 0, 1 } }, "#...." ".##.." "...##" },
     { "10", 7, { 0x0074, 0x0000, 0x0000, 0x0000, 0x0004, 0x0002, 0x0001 }, 100, { 2, 0, 4, 2 }, 0, 2,
