@@ -55,11 +55,11 @@ either : (r : Bool) (p q : Spot) → Low p → Low q → Low (cond r p q)
 either true p q h k = h
 either false p q h k = k
 
-low-along : (t : Bool) (p : Spot) → Low p → alongB t p < 131072
+pub low-along : (t : Bool) (p : Spot) → Low p → alongB t p < 131072
 low-along true p h = h .0
 low-along false p h = h .1
 
-low-across : (t : Bool) (p : Spot) → Low p → acrossB t p < 131072
+pub low-across : (t : Bool) (p : Spot) → Low p → acrossB t p < 131072
 low-across true p h = h .1
 low-across false p h = h .0
 

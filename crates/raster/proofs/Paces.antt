@@ -19,11 +19,8 @@ use Rattle.raster.proofs.Walks.{go}
 abbrev byteAt : Bool → ℕ → ℕ → ℕ → ℕ
 byteAt t w A b = byteB w (record { x = cond t A b; y = cond t b A })
 
-one-row : (y w : ℕ) → (y + 1) * w ≡ y * w + w
-one-row y w = add-mul y 1 w ∙ ap (λ (u : ℕ). y * w + u) (one-mul w)
-
 rows : (a b w : ℕ) → a ≡ b + 1 → a * w ≡ b * w + w
-rows a b w e = ap (λ (u : ℕ). u * w) e ∙ one-row b w
+rows a b w e = ap (λ (u : ℕ). u * w) e ∙ add-mul b 1 w ∙ ap (λ (u : ℕ). b * w + u) (one-mul w)
 
 module _ (w A : ℕ) where
   byte-on : 65536 ≤ A → (t : Bool) (b : ℕ) → byteAt t w (A + 1) b ≡ byteAt t w A b + stride t w

@@ -74,8 +74,7 @@ module _ (w : ℕ) (r : Rect) (p : Spot) where
       let q = inside-is r (p .x) (p .y) t in
       let high : p .y - 65536 ≤ 2048 = omega (arith, h .to-bottom) in
       let whole : (p .y - 65536 + 1) * w ≤ (r .b - 65535) * w = mul-le-mul-right w (omega (arith, h .from-top)) in
-      let part : (p .y - 65536 + 1) * w ≡ (p .y - 65536) * w + w = add-mul (p .y - 65536) 1 w ∙ ap (λ (u : ℕ). (p .y - 65536) * w + u) (one-mul w) in
-      let index : byteB w p < length s = omega (arith, h .from-left, h .to-right, h .down) in (
+      let index : byteB w p < length s = omega (arith, h .from-left, h .to-right, h .down, add-mul (p .y - 65536) 1 w, one-mul w) in (
         record {
           x-from = omega (arith, h .from-left);
           y-from = omega (arith, h .from-top);

@@ -35,56 +35,55 @@ first-never l q h =
 often : (k m : ℕ) → k * (2 * m) ≡ 2 * k * m
 often k m = sym (mul-assoc k 2 m) ∙ ap (λ (a : ℕ). a * m) (mul-comm k 2)
 
-one-often : (k d : ℕ) → (k + 1) * d ≡ k * d + d
-one-often k d = add-mul k 1 d ∙ ap (λ (u : ℕ). k * d + u) (one-mul d)
+module _ (l : Course) (f : Fair l) (q : ℕ) (q1 : 0 < q) (qm : q ≤ l .m) where
+  abbrev n : ℕ
+  n = l .n
 
-module _ (n m h q : ℕ) (g : h ≤ n) (q1 : 0 < q) (qm : q ≤ m) (mn : m ≤ n) where
+  abbrev m : ℕ
+  m = l .m
+
+  abbrev h : ℕ
+  h = half (l .up) (l .n)
+
   -- (2nq - h) / 2m, rounded up
   abbrev firstOf : ℕ
   firstOf = (2 * n * q - h + (2 * m - 1)) / (2 * m)
 
   -- 2n fits q times where h is taken off
   pub room-for : h ≤ 2 * n * q
-  room-for = omega (arith, mul-le-mul-left (2 * n) q1)
+  room-for = omega (arith, half-le (l .up) (l .n), mul-le-mul-left (2 * n) q1)
 
   ends-by : 2 * n * q ≤ n * (2 * m)
   ends-by = omega (arith, mul-le-mul-left (2 * n) qm, often n m)
 
   pub first-limit : firstOf ≤ n
-  first-limit = less (div-lt-iff-lt-mul (omega arith) .1 (omega (arith, ends-by, one-often n (2 * m))))
+  first-limit = less (div-lt-iff-lt-mul (omega arith) .1 (omega (arith, ends-by, add-mul n 1 (2 * m), one-mul (2 * m))))
     where
       less : {a b : ℕ} → a < b + 1 → a ≤ b
       less l = omega arith
 
-  not-yet : (k : ℕ) → k < firstOf → offset n m h k < q
+  not-yet : (k : ℕ) → k < firstOf → offsetOf l k < q
   unfolding offset
-  not-yet k l =
-      let a : (k + 1) * (2 * m) ≤ 2 * n * q - h + (2 * m - 1) = le-div-iff-mul-le {k = 2 * m} {x = k + 1} {y = 2 * n * q - h + (2 * m - 1)} (omega arith) .0 (up l) in
-      div-lt-iff-lt-mul {k = 2 * n} {x = 2 * k * m + h} {y = q} (omega arith) .1 (omega (arith, a, one-often k (2 * m), often k m, mul-comm q (2 * n)))
+  not-yet k g =
+      let a : (k + 1) * (2 * m) ≤ 2 * n * q - h + (2 * m - 1) = le-div-iff-mul-le {k = 2 * m} {x = k + 1} {y = 2 * n * q - h + (2 * m - 1)} (omega arith) .0 (up g) in
+      div-lt-iff-lt-mul {k = 2 * n} {x = 2 * k * m + h} {y = q} (omega (arith, f .short)) .1
+      (omega (arith, a, room-for, add-mul k 1 (2 * m), one-mul (2 * m), often k m, mul-comm q (2 * n)))
     where
       up : {a b : ℕ} → a < b → a + 1 ≤ b
       up p = omega arith
 
-  by-then : (k : ℕ) → firstOf ≤ k → q ≤ offset n m h k
+  by-then : (k : ℕ) → firstOf ≤ k → q ≤ offsetOf l k
   unfolding offset
-  by-then k l =
-      let a : 2 * n * q - h + (2 * m - 1) < (k + 1) * (2 * m) = div-lt-iff-lt-mul {k = 2 * m} {x = 2 * n * q - h + (2 * m - 1)} {y = k + 1} (omega arith) .0 (on l) in
-      le-div-iff-mul-le {k = 2 * n} {x = q} {y = 2 * k * m + h} (omega arith) .1 (omega (arith, a, one-often k (2 * m), often k m, mul-comm q (2 * n)))
+  by-then k g =
+      let a : 2 * n * q - h + (2 * m - 1) < (k + 1) * (2 * m) = div-lt-iff-lt-mul {k = 2 * m} {x = 2 * n * q - h + (2 * m - 1)} {y = k + 1} (omega arith) .0 (on g) in
+      le-div-iff-mul-le {k = 2 * n} {x = q} {y = 2 * k * m + h} (omega (arith, f .short)) .1
+      (omega (arith, a, add-mul k 1 (2 * m), one-mul (2 * m), often k m, mul-comm q (2 * n)))
     where
       on : {a b : ℕ} → a ≤ b → a < b + 1
       on p = omega arith
 
-pub first-is : (l : Course) (q : ℕ) → Fair l → 0 < q → q ≤ l .m → First l q ((2 * l .n * q - half (l .up) (l .n) + (2 * l .m - 1)) / (2 * l .m))
-first-is l q f q1 qm =
-    let n = l .n in
-    let m = l .m in
-    let h = half (l .up) (l .n) in
-    let g = half-le (l .up) (l .n) in
-    record {
-      before = λ k b t. not-yet n m h q g q1 qm (f .short) k b;
-      from = λ k b t. by-then n m h q g q1 qm (f .short) k b;
-      limit = omega (arith, first-limit n m h q g q1 qm (f .short));
-    }
+  pub first-is : First l q firstOf
+  first-is = record { before = λ k g t. not-yet k g; from = λ k g t. by-then k g; limit = omega (arith, first-limit) }
 
 -- ---- steps that end within two numbers
 module _ (a q lo hi : ℕ) where

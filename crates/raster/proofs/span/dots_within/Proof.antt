@@ -1,25 +1,15 @@
 -- `raster::span::dots_within` meets its contract: both axes' steps.
 use mathlib.Core.Path.{_≡_, sym, ap, ap₂, _∙_, subst, subst₂, subst⁻¹}
-use mathlib.Core.Bool.{Bool, true, false}
+use mathlib.Core.Bool.{true}
 use Prim.Native.Nat.{ℕ, _+_, _<_, min, max}
 use native.Mathlib.Omega.{arith}
 use borrow.Author.Needs.{needs}
-use Rattle.raster.specs.declared.moved.Spot.{Spot}
 use Rattle.raster.specs.declared.span.Span.{Span}
-use Rattle.raster.specs.Courses.{alongB, acrossB}
-use Rattle.raster.specs.Spans.{spanOf, coversB, alongSpan, acrossSpan, First, DotsWithin}
+use Rattle.raster.specs.Spans.{spanOf, coversB, highB, alongSpan, acrossSpan, First, DotsWithin}
+use Rattle.raster.proofs.Courses.{low-along, low-across}
 use Rattle.raster.proofs.Spans.{dots-within, all-within}
 use Rattle.raster.proofs.span.dots_within.Statement.{statement}
 use Rattle.raster.proofs.span.dots_within.Tie as tie
-
--- ---- the corner's coordinates are small
-low-along : (t : Bool) (p : Spot) → p .x < 131072 → p .y < 131072 → alongB t p < 131072
-low-along true p h k = h
-low-along false p h k = k
-
-low-across : (t : Bool) (p : Spot) → p .x < 131072 → p .y < 131072 → acrossB t p < 131072
-low-across true p h k = k
-low-across false p h k = h
 
 small : (a n : ℕ) → a + n < 131072 → a < 131072
 small a n h = omega arith
@@ -51,7 +41,7 @@ span-of-requires c κs =
     let s = c .before .before in
     let l = s .args .l in
     let r = s .args .r in
-    (small (l .along) (l .n) (s .pre .0 .far), subst⁻¹ (λ (a : ℕ). a < 131072) (c .along-of2 .ensures) (low-along (l .flat) (record { x = r .r; y = r .b }) (s .pre .1) (s .pre .2)))
+    (small (l .along) (l .n) (s .pre .0 .far), subst⁻¹ (λ (a : ℕ). a < 131072) (c .along-of2 .ensures) (low-along (l .flat) (highB r) (s .pre .1, s .pre .2)))
 
 across-of-requires : tie.Need-across-of-requires
 across-of-requires c κs = search needs
@@ -64,7 +54,7 @@ span-of-requires-2 c κs =
     let s = c .before .before .before .before .before in
     let l = s .args .l in
     let r = s .args .r in
-    (s .pre .0 .wide, subst⁻¹ (λ (a : ℕ). a < 131072) (c .across-of2 .ensures) (low-across (l .flat) (record { x = r .r; y = r .b }) (s .pre .1) (s .pre .2)))
+    (s .pre .0 .wide, subst⁻¹ (λ (a : ℕ). a < 131072) (c .across-of2 .ensures) (low-across (l .flat) (highB r) (s .pre .1, s .pre .2)))
 
 covers-requires : tie.Need-covers-requires
 covers-requires c κs = search needs

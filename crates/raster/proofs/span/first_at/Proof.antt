@@ -6,7 +6,6 @@ use borrow.Author.Needs.{needs}
 use Rattle.raster.specs.declared.course.Course.{Course}
 use Rattle.raster.specs.Courses.{half, Fair}
 use Rattle.raster.specs.Spans.{First}
-use Rattle.raster.proofs.Sides.{half-le}
 use Rattle.raster.proofs.Spans.{first-never, first-is, first-limit, room-for}
 use Rattle.raster.proofs.span.first_at.Statement.{statement}
 use Rattle.raster.proofs.span.first_at.Tie as tie
@@ -34,7 +33,7 @@ module _ (c : tie.Else2) where
   q-to : q ≤ l .m
   q-to = c .if2 .left
 
--- what the code takes 2n from, and what it divides, is what the law does
+-- what the code takes off, and what it divides, are the law's
 less : (c : tie.After-wide) → c .wide .result ≡ half (l (c .before .before .before) .up) (l (c .before .before .before) .n)
 less c = c .wide .ensures ∙ c .before .half-of .ensures
 
@@ -69,7 +68,7 @@ sub-t : tie.Need-sub-t
 sub-t c =
     let e = c .before .before .before in
     as-large (less c) (c .before .before .twice-of .ensures .0)
-    (room-for (l e .n) (l e .m) (half (l e .up) (l e .n)) (q e) (half-le (l e .up) (l e .n)) (q-from e) (q-to e) (fair e .short))
+    (room-for (l e) (fair e) (q e) (q-from e) (q-to e))
   where
     as-large : {a b x y : ℕ} → a ≡ x → b ≡ y → x ≤ y → a ≤ b
     as-large p q h = omega arith
@@ -94,7 +93,7 @@ cast-result c =
     let e = c .before .before .before .before in
     record {
       fits = subst⁻¹ (λ (u : ℕ). u < 4294967296) (found c)
-          (low (l e .along) (first-limit (l e .n) (l e .m) (half (l e .up) (l e .n)) (q e) (half-le (l e .up) (l e .n)) (q-from e) (q-to e) (fair e .short)) (fair e .far));
+          (low (l e .along) (first-limit (l e) (fair e) (q e) (q-from e) (q-to e)) (fair e .far));
     }
   where
     low : {f n : ℕ} (a : ℕ) → f ≤ n → a + n < 131072 → f < 4294967296
@@ -103,7 +102,7 @@ cast-result c =
 returns-3 : tie.Need-returns-3
 returns-3 c =
     let e = c .before .before .before .before in
-    subst⁻¹ (λ (u : ℕ). First (l e) (q e) u) (found c) (first-is (l e) (q e) (fair e) (q-from e) (q-to e))
+    subst⁻¹ (λ (u : ℕ). First (l e) (q e) u) (found c) (first-is (l e) (fair e) (q e) (q-from e) (q-to e))
 
 pub first-at-spec : {M : Type 1} → statement M
 first-at-spec =

@@ -35,6 +35,9 @@ small a n h = omega arith
 low-byte : (w at : ℕ) (p : Spot) → at ≡ byteB w p → Placed w p → at < 4294967296
 low-byte w at p e h = omega (arith, h)
 
+up-to : (a b : ℕ) → a ≤ b → a < suc b
+up-to a b h = omega arith
+
 -- in a turn dot k and the next are among the dots
 turn : (a k b n : ℕ) → a ≤ k → k < b → b ≤ n → (k < n) × (k < suc b) × (a ≤ k + 1) × (k + 1 < suc b) × (k + 1 ≤ b)
 turn a k b n h g l = omega arith
@@ -46,10 +49,7 @@ module _ (s : tie.Start Inv-loop μ-loop) where
   seen-at k t e h g = let v = s .pre .0 k h g in (v .0, subst⁻¹ (λ (n : ℕ). byteB (s .args .w) (lineSpot (s .args .l) k) < n) e (v .1))
 
   first-placed : Placed (s .args .w) (lineSpot (s .args .l) (s .args .first))
-  first-placed = s .pre .0 (s .args .first) (le-refl (s .args .first)) (up (s .args .first) (s .args .last) (s .pre .1 .2)) .0
-    where
-      up : (a b : ℕ) → a ≤ b → a < suc b
-      up a b h = omega arith
+  first-placed = s .pre .0 (s .args .first) (le-refl (s .args .first)) (up-to (s .args .first) (s .args .last) (s .pre .1 .2)) .0
 
 spot-here : (c : tie.After-spot-at Inv-loop μ-loop) → let s = c .before .before .before in c .spot-at .result ≡ lineSpot (s .args .l) (s .args .first)
 spot-here c =
@@ -156,10 +156,7 @@ abbrev E : tie.After-loop Inv-loop μ-loop → tie.Start Inv-loop μ-loop
 E o = o .before .before .before .before .before .before
 
 last-seen : (o : tie.After-loop Inv-loop μ-loop) → let a = o .before .loop in Seen (E o .args .w) (lineSpot (E o .args .l) (a .k)) (a .screen)
-last-seen o = let a = o .before .loop in seen-at (E o) (a .k) (a .screen) (a .inv .1) (a .inv .2) (up (a .k) (E o .args .last) (a .inv .3))
-  where
-    up : (a b : ℕ) → a ≤ b → a < suc b
-    up a b h = omega arith
+last-seen o = let a = o .before .loop in seen-at (E o) (a .k) (a .screen) (a .inv .1) (a .inv .2) (up-to (a .k) (E o .args .last) (a .inv .3))
 
 slice-write-screen-2 : tie.Need-slice-write-screen-2 Inv-loop μ-loop
 slice-write-screen-2 o = let a = o .before .loop in subst⁻¹ (λ (p : ℕ). p < length (a .screen)) (a .inv .5) (last-seen o .1)
