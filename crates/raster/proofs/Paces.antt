@@ -39,12 +39,12 @@ module _ (w A : ℕ) where
   above true b h = omega (arith, rows (b - 65536) (b - 65537) w (omega arith))
   above false b h = omega arith
 
+pub stride-low : (t : Bool) (w : ℕ) → w ≤ 2048 → stride t w ≤ 2048
+stride-low true w h = omega arith
+stride-low false w h = h
+
 pub on-low : (w : ℕ) (l : Course) (p : Pace) → Paced w l p → w ≤ 2048 → p .on ≤ 2048
-on-low w l p d h = subst⁻¹ (λ (a : ℕ). a ≤ 2048) (d .straight) (low (l .flat))
-  where
-    low : (t : Bool) → stride t w ≤ 2048
-    low true = omega arith
-    low false = h
+on-low w l p d h = subst⁻¹ (λ (a : ℕ). a ≤ 2048) (d .straight) (stride-low (l .flat) w h)
 
 -- ---- a sum modulo 2^64 that leads back
 back : (at on beside both : ℕ) → (both + beside) % 2 ^ 64 ≡ on → beside ≤ at + on → at + on < 2 ^ 64 → beside < 2 ^ 64 → (at + both) % 2 ^ 64 ≡ at + on - beside
@@ -106,11 +106,7 @@ module _ (w : ℕ) (l : Course) (p : Pace) (f : Fair l) (d : Paced w l p) (k e :
       fall false u x y = omega arith
 
   small : (at + p .on < 4294967296) × (beside ≤ 2048)
-  small = by (l .flat) (d .straight)
-    where
-      by : (t : Bool) → p .on ≡ stride t w → (at + p .on < 4294967296) × (stride (not t) w ≤ 2048)
-      by true u = (omega (arith, here), omega (arith, here))
-      by false u = (omega (arith, here), omega (arith, here))
+  small = (omega (arith, here, on-low w l p d (here .narrow)), stride-low (not (l .flat)) w (here .narrow))
 
   lands : offsetOf l k + 1 ≡ offsetOf l (k + 1) → (up : Bool) → l .up ≡ up → (at + p .aside) % 2 ^ 64 ≡ aside up (at + p .on) beside
   lands q true u = ap (λ (a : ℕ). (at + a) % 2 ^ 64) (d .rises u) ∙ omega (arith, small)

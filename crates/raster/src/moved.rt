@@ -1,4 +1,5 @@
-// Coordinates moved up by 65,536, so that they are unsigned. Nothing else computes with signed numbers.
+// Coordinates moved up by 65,536, so that they are unsigned, and arithmetic with them. Nothing else computes with signed
+// numbers.
 use crate::dots::Dot;
 ghost use mathlib.Core.Path.{_≡_};
 ghost use mathlib.Core.Bool.{false};
@@ -67,7 +68,7 @@ pub fn wide(a: u32) -> u64
     a as u64
 }
 
-// 2ab.
+// 2ab, which 32 bits do not hold.
 pub fn twice_of(a: u32, b: u32) -> u64
     requires { ⌜ (a < 131072) × (b < 131072) ⌝ }
     ensures { λ r. ⌜ (r ≡ 2 * a * b) × (r < 34359738368) ⌝ }

@@ -5,16 +5,12 @@ use Prim.Native.Nat.{ℕ, _+_, _%_, _^_, _<_, _≤_}
 use native.Mathlib.Omega.{arith}
 use borrow.Author.Needs.{needs}
 use lib.Dec.{T}
-use Rattle.raster.specs.Walks.{stride}
+use Rattle.raster.proofs.Paces.{stride-low}
 use Rattle.raster.proofs.walk.pace_of.Statement.{statement}
 use Rattle.raster.proofs.walk.pace_of.Tie as tie
 
 not-both : {X : Type 0} (t : Bool) → t ≡ true → t ≡ false → X
 not-both t p q = absurd (subst T (sym p ∙ q) tt)
-
-stride-low : (t : Bool) (w : ℕ) → w ≤ 2048 → stride t w ≤ 2048
-stride-low true w h = omega arith
-stride-low false w h = h
 
 stride-of-requires : tie.Need-stride-of-requires
 stride-of-requires c κs = search needs
