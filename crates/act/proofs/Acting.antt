@@ -1,17 +1,21 @@
 -- What every room shares: carrying out goes by the lowest of 24 to 29 that the rule breaks, whatever the rule.
 use Prim.Native.Nat.{ℕ}
-use mathlib.Core.Path.{_≡_, refl}
-use mathlib.Core.Bool.{Bool, true, false, cond}
+use mathlib.Core.Path.{_≡_, refl, sym, ap, _∙_}
+use mathlib.Core.Bool.{Bool, true, false, cond, _&&_}
 use mathlib.Core.List.{List}
 use mathlib.Core.Option.{Option, none, some}
-use Rattle.raster.specs.Paint.{paint}
-use Rattle.raster.proofs.Paintings.{nothing}
+use Rattle.raster.specs.declared.frame.Frame.{Frame}
+use Rattle.raster.specs.Shapes.{Shape}
+use Rattle.raster.specs.Frame.{drawable}
+use Rattle.raster.specs.Brush.{Holds}
+use Rattle.player.specs.Painting.{Painting, nothing}
 use Rattle.player.specs.Player.{verdict, Outcome, done, refused}
+use Rattle.player.specs.Shown.{marks, unmarked, went, stayed}
 use Rattle.numbers.specs.declared.place.WordIndex.{WordIndex}
 use Rattle.rules.specs.Environment.{Env, goto, frame}
 use Rattle.rules.specs.Opcodes.{Rule, paints}
 use Rattle.rules.specs.Step.{check, carried}
-use Rattle.act.specs.Shown.{Shown, went, stayed, seen, does}
+use Rattle.act.specs.Shown.{Shown, seen, does}
 
 -- the lowest that a rule breaks
 abbrev pub lowest : Rule → Option ℕ
@@ -28,8 +32,11 @@ abbrev unless : Option ℕ → Outcome Env → Outcome Env
 unless (some n) o = refused (verdict n)
 unless none o = o
 
+abbrev pub painting : Rule → Env → Painting
+painting r e = record { frame = frame e; shape = r .shape; colour = r .colour }
+
 abbrev said : Rule → Env → Outcome Env
-said r e = done (r .env) (record { frame = frame e; shape = r .shape; colour = r .colour })
+said r e = done (r .env) (painting r e)
 
 carried-is : (r : Rule) (e : Env) → carried r e ≡ unless (lowest r) (said r e)
 unfolding carried
@@ -40,32 +47,44 @@ carried-is r e =
     go n true m p = refl
     go n false m p = p
 
--- ---- a rule, the next opcode at an index, from the environment e with the screen s
-module _ (rule : Env → Rule) (next : WordIndex) (e : Env) (s : List ℕ) where
+-- the empty shape has no drawable dot
+no-dots : (f : Frame) → _≡_ {A = Shape} (λ x y. drawable f x y && false) (λ x y. false)
+no-dots f = λ i x y. go (drawable f x y) i
+  where
+    go : (t : Bool) → (t && false) ≡ false
+    go true = refl
+    go false = refl
+
+-- ---- a rule, the next opcode at an index, from the environment e; p is the brush that is left
+module _ (rule : Env → Rule) (next : WordIndex) (e : Env) (p : List ℕ) where
   abbrev r : Rule
   r = rule (goto (next .0) e)
 
   -- a rule that breaks n, and none below it, is refused with n, and all stays
-  pub stays : {n : ℕ} {X : Shown} → lowest r ≡ some n → X ≡ stayed (verdict n) e s → X ≡ does rule next e s
+  pub stays : {n : ℕ} {X : Shown} → lowest r ≡ some n → X ≡ stayed (verdict n) e → X ≡ does rule next e p
   unfolding does
-  stays p x = rw (carried-is r e, p) x
+  stays k x = rw (carried-is r e, k) x
 
   -- one that breaks none is carried out, and its shape painted
-  goes : {X : Shown} → lowest r ≡ none → X ≡ went (r .env) (paint (frame e) (r .shape) (r .colour) s) → X ≡ does rule next e s
+  goes : {X : Shown} → lowest r ≡ none → X ≡ went (r .env) (marks (painting r e)) → X ≡ does rule next e p
   unfolding does
-  goes p x = rw (carried-is r e, p) x
+  goes k x = rw (carried-is r e, k) x
 
   -- and does what another rule does that says the same and checks nothing
-  pub past : (f : Env → Rule) {X : Shown} → lowest r ≡ none → f (goto (next .0) e) ≡ paints (r .shape) (r .colour) (r .env) → X ≡ does f next e s
-      → X ≡ does rule next e s
+  pub past : (f : Env → Rule) {X : Shown} → lowest r ≡ none → f (goto (next .0) e) ≡ paints (r .shape) (r .colour) (r .env) → X ≡ does f next e p
+      → X ≡ does rule next e p
   unfolding does carried
-  past f p same x = goes p (rw same at x)
+  past f k same x = goes k (rw same at x)
 
-  -- 0 came back, with the environment and the screen that it says
-  pub drawn : {q : ℕ} {e' : Env} {s' : List ℕ} → lowest r ≡ none → q ≡ 0 → e' ≡ r .env → s' ≡ paint (frame e) (r .shape) (r .colour) s
-      → seen q e' s' ≡ does rule next e s
-  drawn p z env screen = goes p (rw (z, env, screen))
+  -- 1 came back, with the environment that it says, its frame that of before, and the brush holds the shape
+  pub drawn : {q : ℕ} {e' : Env} → lowest r ≡ none → q ≡ 1 → e' ≡ r .env → frame (r .env) ≡ frame e → Holds (r .shape) (r .colour) p
+      → seen q e' p ≡ does rule next e p
+  drawn k z env framed h = goes k (rw (z, env, framed, h .shape, h .colour))
 
-  -- where that is empty, the screen stays
-  pub turns : {X : Shown} → lowest r ≡ none → r .shape ≡ (λ x y. false) → X ≡ went (r .env) s → X ≡ does rule next e s
-  turns p empty x = goes p (rw (empty, nothing (frame e) (r .colour) s) x)
+  -- where the shape is empty, no dot is painted
+  pub turns : {X : Shown} → lowest r ≡ none → painting r e ≡ nothing (frame e) → X ≡ went (r .env) (unmarked (e .bounds)) → X ≡ does rule next e p
+  turns k empty x =
+      goes k
+      (x
+      ∙ ap (λ (d : Shape). went (r .env) (record { bounds = e .bounds; dots = d; colour = 0 })) (sym (no-dots (frame e)))
+      ∙ ap (λ (y : Painting). went (r .env) (marks y)) (sym empty))

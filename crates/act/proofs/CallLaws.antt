@@ -14,10 +14,9 @@ use Rattle.raster.specs.declared.frame.Bounds.{Bounds}
 use Rattle.rules.specs.declared.opcode.Op.the-variants.{Return}
 use Rattle.rules.specs.declared.opcode.Operands.{Operands}
 use Rattle.rules.specs.Environment.{Env, firsts, goto, stacked}
-use Rattle.rules.specs.Operands.{at}
 use Rattle.rules.specs.Opcodes.{calls, rule}
 use Rattle.rules.proofs.StackLaws.{length-firsts, push, pop, each}
-use Rattle.act.specs.Held.{look, Recelled, Deepened}
+use Rattle.act.specs.Held.{celled, look, Recelled, Deepened}
 use Rattle.act.specs.Shown.{does}
 use Rattle.act.specs.Contracts.{Stacks, Stacked}
 use Rattle.act.proofs.Acting.{stays, turns}
@@ -33,7 +32,7 @@ module _ (t : Target) (next : WordIndex) {cs st : List ℕ} (pre : Stacked cs st
   pub call-27 : t ≡ Refused → Stacks 27 (does (calls t) next) cs cs st st
   call-27 m = record { cells = pre .cells; deep = pre .full; tells = λ b ps vs s. stays _ _ _ s (rw m) refl }
 
-  module _ {i : WordIndex} (m : t ≡ At i) {d : ℕ} (is : d ≡ at cs 3) where
+  module _ {i : WordIndex} (m : t ≡ At i) {d : ℕ} (is : d ≡ celled cs .depth) where
     pub call-28 : 16 ≤ d → Stacks 28 (does (calls t) next) cs cs st st
     call-28 h =
         record { cells = pre .cells; deep = pre .full; tells = λ b ps vs s. stays _ _ _ s (rw (m, ← is, length-firsts d st, le-leb 16 d h)) refl }
@@ -47,7 +46,7 @@ module _ (t : Target) (next : WordIndex) {cs st : List ℕ} (pre : Stacked cs st
       tells = λ b ps vs s.
           turns _ _ _ s (rw (m, ← is, length-firsts d st, lt-leb 16 d h)) refl
           (rw (m, ← is, ← push d (next .0) st (omega (arith, h, pre .full)), ← add-one d)
-          (settled (g .0) (then-to (d + 1) cs p (g .1) b ps vs (set st d (next .0)))));
+          (settled s (g .0) (then-to (d + 1) cs p (g .1) b ps vs (set st d (next .0)))));
     }
 
 -- the target t is what T makes of the environment at the next opcode
@@ -56,7 +55,7 @@ pub call-aimed : {t : Target} (next : WordIndex) (T : Env → Target) → ((e : 
 unfolding does
 call-aimed next T is p = record { cells = p .cells; deep = p .deep; tells = λ b ps vs s. rw (← is _) (p .tells b ps vs s) }
 
-module _ (o : Operands) (n : ℕ) (next : WordIndex) {cs st : List ℕ} (pre : Stacked cs st) {d : ℕ} (is : d ≡ at cs 3) where
+module _ (o : Operands) (n : ℕ) (next : WordIndex) {cs st : List ℕ} (pre : Stacked cs st) {d : ℕ} (is : d ≡ celled cs .depth) where
   pub back-29 : d ≡ 0 → Stacks 29 (does (rule Return o n) next) cs cs st st
   back-29 z =
       record { cells = pre .cells; deep = pre .full; tells = λ b ps vs s. stays _ _ _ s (rw (← is, length-firsts d st, eq-eqb d 0 z)) refl }
@@ -72,5 +71,5 @@ module _ (o : Operands) (n : ℕ) (next : WordIndex) {cs st : List ℕ} (pre : S
         tells = λ b ps vs s.
             turns _ _ _ s (rw (← is, length-firsts d st, ne-eqb d 0 h)) refl
             (rw (← is, length-firsts d st, each d (d - 1) st (omega (arith, h)), rw above at (pop (d - 1) st))
-            (settled (g .0) (then-to (d - 1) cs p (g .1) b ps vs st)));
+            (settled s (g .0) (then-to (d - 1) cs p (g .1) b ps vs st)));
       }

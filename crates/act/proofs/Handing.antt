@@ -6,6 +6,7 @@ use lib.ListN.{length}
 use lib.IntN.{ℤ}
 use Rattle.numbers.specs.declared.place.WordIndex.{WordIndex}
 use Rattle.raster.specs.declared.frame.Bounds.{Bounds}
+use Rattle.player.specs.Shown.{unmarked, went}
 use Rattle.rules.specs.declared.opcode.Operands.{Operands}
 use Rattle.rules.specs.Environment.{Env}
 use Rattle.rules.specs.Opcodes.{Rule}
@@ -13,8 +14,8 @@ use Rattle.fetch.specs.declared.source.Taken.{Taken}
 use Rattle.fetch.specs.declared.source.Taken.the-variants.{Refused, Got}
 use Rattle.fetch.specs.Stages.{Named}
 use Rattle.act.specs.Held.{look, Cells, Points, Recelled, Repointed}
-use Rattle.act.specs.Shown.{went, seen, does, answers}
-use Rattle.act.specs.Contracts.{Turns, Sets, Stacks, Moves, Paints, Draws}
+use Rattle.act.specs.Shown.{seen, does, answers}
+use Rattle.act.specs.Contracts.{Turns, Sets, Stacks, Moves, Paints, Draws, Brushed}
 
 module _ {t : Taken} {n : ℕ} (f : Operands → Env → Rule) (e : t ≡ Refused n) {cs : List ℕ} (l : Cells cs) where
   pub passed-turns : Turns n (answers t f) cs cs
@@ -33,13 +34,13 @@ module _ {t : Taken} {n : ℕ} (f : Operands → Env → Rule) (e : t ≡ Refuse
   unfolding answers
   passed-moves k = record { cells = l; points = k; tells = λ b vs st s. rw e }
 
-  pub passed-paints : {b : Bounds} {ps : List ℤ} {s : List ℕ} → Paints n (answers t f) b cs cs ps s s
+  pub passed-paints : {p : List ℕ} → Brushed p → Paints n (answers t f) cs cs p
   unfolding answers
-  passed-paints = record { cells = l; tells = λ vs st. rw e }
+  passed-paints k = record { cells = l; brush = k; tells = λ b ps vs st. rw e }
 
-  pub passed-draws : {b : Bounds} {ps : List ℤ} {s : List ℕ} → Points ps → Draws n (answers t f) b cs cs ps ps s s
+  pub passed-draws : {ps : List ℤ} {p : List ℕ} → Points ps → Brushed p → Draws n (answers t f) cs cs ps ps p
   unfolding answers
-  passed-draws k = record { cells = l; points = k; tells = λ vs st. rw e }
+  passed-draws h k = record { cells = l; points = h; brush = k; tells = λ b vs st. rw e }
 
 module _ {t : Taken} {o : Operands} {next : WordIndex} (f : Operands → Env → Rule) (e : t ≡ Got o next) {q : ℕ} {cs cs' : List ℕ} where
   pub got-turns : Turns q (does (f o) next) cs cs' → Turns q (answers t f) cs cs'
@@ -58,17 +59,17 @@ module _ {t : Taken} {o : Operands} {next : WordIndex} (f : Operands → Env →
   unfolding answers
   got-moves p = rw e p
 
-  pub got-paints : {b : Bounds} {ps : List ℤ} {s s' : List ℕ} → Paints q (does (f o) next) b cs cs' ps s s' → Paints q (answers t f) b cs cs' ps s s'
+  pub got-paints : {p : List ℕ} → Paints q (does (f o) next) cs cs' p → Paints q (answers t f) cs cs' p
   unfolding answers
-  got-paints p = rw e p
+  got-paints d = rw e d
 
-  pub got-draws : {b : Bounds} {ps ps' : List ℤ} {s s' : List ℕ} → Draws q (does (f o) next) b cs cs' ps ps' s s' → Draws q (answers t f) b cs cs' ps ps' s s'
+  pub got-draws : {ps ps' : List ℤ} {p : List ℕ} → Draws q (does (f o) next) cs cs' ps ps' p → Draws q (answers t f) cs cs' ps ps' p
   unfolding answers
-  got-draws p = rw e p
+  got-draws d = rw e d
 
--- 0 came back: the environment e' that is left is e
-pub settled : {q : ℕ} → q ≡ 0 → {e e' : Env} → e' ≡ e → {s : List ℕ} → seen q e' s ≡ went e s
-settled z p = rw (z, p)
+-- 0 came back: the environment e' that is left is e, and no dot is painted
+pub settled : (p : List ℕ) {q : ℕ} → q ≡ 0 → {e e' : Env} → e' ≡ e → seen q e' p ≡ went e (unmarked (e .bounds))
+settled p z h = rw (z, h)
 
 -- one change of cells, and then another
 pub then : {f g : Env → Env} {xs ys zs : List ℕ} → Recelled f xs ys → Recelled g ys zs → Recelled (λ e. g (f e)) xs zs

@@ -9,11 +9,10 @@ use Rattle.numbers.specs.declared.place.Target.the-variants.{At, Refused}
 use Rattle.numbers.specs.Number.{signed32}
 use Rattle.rules.specs.Conditions.{allowed, holds}
 use Rattle.rules.specs.Environment.{Env, goto}
-use Rattle.rules.specs.Operands.{at}
 use Rattle.rules.specs.Opcodes.{jumps}
 use Rattle.act.specs.declared.flow.Condition.{Condition}
 use Rattle.act.specs.declared.flow.Condition.the-variants.{NotAllowed, Holds, Fails}
-use Rattle.act.specs.Held.{Cells, Recelled}
+use Rattle.act.specs.Held.{celled, Cells, Recelled}
 use Rattle.act.specs.Shown.{does}
 use Rattle.act.specs.Conditions.{told, conditionOf}
 use Rattle.act.specs.Contracts.{Turns}
@@ -36,8 +35,8 @@ judged k x y is p = rw (sym p ∙ is) (go (allowed k) (holds k (signed32 x) (sig
     go false h p q = p
 
 -- c answers condition k on the cells' two values
-module _ (k : ℕ) (t : Target) (next : WordIndex) (cs : List ℕ) {x y : ℕ} {c : Condition} (px : x ≡ at cs 1) (py : y ≡ at cs 2) (is : c ≡ conditionOf k x y) where
-  asked : {d : Condition} → c ≡ d → Judged d k (at cs 1) (at cs 2)
+module _ (k : ℕ) (t : Target) (next : WordIndex) (cs : List ℕ) {x y : ℕ} {c : Condition} (px : x ≡ celled cs .first) (py : y ≡ celled cs .second) (is : c ≡ conditionOf k x y) where
+  asked : {d : Condition} → c ≡ d → Judged d k (celled cs .first) (celled cs .second)
   asked p = rw (← px, ← py) (judged k x y is p)
 
   pub jump-24 : c ≡ NotAllowed → Cells cs → Turns 24 (does (jumps k t) next) cs cs
@@ -50,12 +49,12 @@ module _ (k : ℕ) (t : Target) (next : WordIndex) (cs : List ℕ) {x y : ℕ} {
     pub jump-no : c ≡ Fails → (q ≡ 0) × Recelled (goto (next .0)) cs cs' → Turns q (does (jumps k t) next) cs cs'
     jump-no p g =
         let j = asked p in
-        record { cells = g .1 .full; tells = λ b ps vs st s. turns _ _ _ s (rw (j .0, j .1)) refl (rw (j .1) (settled (g .0) (g .1 .shows b ps vs st))) }
+        record { cells = g .1 .full; tells = λ b ps vs st s. turns _ _ _ s (rw (j .0, j .1)) refl (rw (j .1) (settled s (g .0) (g .1 .shows b ps vs st))) }
 
     pub jump-at : c ≡ Holds → {i : WordIndex} → t ≡ At i → (q ≡ 0) × Recelled (goto (i .0)) cs cs' → Turns q (does (jumps k t) next) cs cs'
     jump-at p m g =
         let j = asked p in
-        record { cells = g .1 .full; tells = λ b ps vs st s. turns _ _ _ s (rw (j .0, j .1, m)) refl (rw (j .1, m) (settled (g .0) (g .1 .shows b ps vs st))) }
+        record { cells = g .1 .full; tells = λ b ps vs st s. turns _ _ _ s (rw (j .0, j .1, m)) refl (rw (j .1, m) (settled s (g .0) (g .1 .shows b ps vs st))) }
 
 -- the target t is what T makes of the environment at the next opcode
 pub jump-aimed : (k : ℕ) {t : Target} (next : WordIndex) (T : Env → Target) → ((e : Env) → t ≡ T (goto (next .0) e)) → {q : ℕ} {cs cs' : List ℕ}

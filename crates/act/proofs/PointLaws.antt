@@ -14,13 +14,12 @@ use Rattle.numbers.specs.declared.coordinate.Coordinate.the-variants.{Within, O
 use Rattle.numbers.specs.declared.place.WordIndex.{WordIndex}
 use Rattle.numbers.proofs.Answers.{told-first, told-second, clash}
 use Rattle.raster.specs.declared.dots.Dot.{Dot}
-use Rattle.raster.specs.declared.frame.Bounds.{Bounds}
 use Rattle.rules.specs.Opcodes.{far, shifted, dots}
 use Rattle.rules.proofs.Ranges.{one, other}
 use Rattle.rules.proofs.DoorLaws.{coord}
 use Rattle.act.specs.declared.point.Point.{Point}
 use Rattle.act.specs.declared.point.Point.the-variants as Points
-use Rattle.act.specs.Held.{registers, look}
+use Rattle.act.specs.Held.{celled, look}
 use Rattle.act.specs.Shown.{does}
 use Rattle.act.specs.Contracts.{Paints, Near}
 use Rattle.act.specs.Points.{unless, pointOf, pointBy, paired}
@@ -60,6 +59,9 @@ from d e is = is ∙ ap (λ p. pointBy p d) e
 pub near : (p : Dot) → far p ≡ false → Near p
 near p e = let t = not-false (inWord (p .x) && inWord (p .y)) e in (coord (p .x) (one _ _ t), coord (p .y) (other (inWord (p .x)) _ t))
 
+pub near-as : {p q : Dot} → p ≡ q → Near q → Near p
+near-as e h = rw e h
+
 -- ---- what the answer r tells of the point p
 module _ {r : Point} (out : Bool) (p : Dot) (is : r ≡ unless out p) where
   pub told-outside : r ≡ Points.Outside → out ≡ true
@@ -70,9 +72,9 @@ module _ {r : Point} (out : Bool) (p : Dot) (is : r ≡ unless out p) where
   unfolding unless
   told-at e = let t = told-second out (λ o. clash (cc)) (sym is ∙ e) in (t .0, cc)
 
--- ---- dots at p in the colour c, which is the foreground's
-pub foreground : (p : Dot) (next : WordIndex) {c q : ℕ} {b : Bounds} {cs cs' : List ℕ} {ps : List ℤ} {s s' : List ℕ} → c ≡ registers cs ps .colour
-    → Paints q (does (dots p c) next) b cs cs' ps s s' → Paints q (does (λ e. dots p (e .colour) e) next) b cs cs' ps s s'
+-- ---- dots at d in the colour c, which is the foreground's
+pub foreground : (d : Dot) (next : WordIndex) {c q : ℕ} {cs cs' p : List ℕ} → c ≡ celled cs .colour
+    → Paints q (does (dots d c) next) cs cs' p → Paints q (does (λ e. dots d (e .pen .colour) e) next) cs cs' p
 unfolding does
-foreground p next {b = b} {cs = cs} {ps = ps} {s = s} e d =
-    record { cells = d .cells; tells = λ vs st. d .tells vs st ∙ ap (λ c. does (dots p c) next (look b cs ps vs st) s) e }
+foreground d next {cs = cs} {p = p} e h =
+    record { cells = h .cells; brush = h .brush; tells = λ b ps vs st. h .tells b ps vs st ∙ ap (λ c. does (dots d c) next (look b cs ps vs st) p) e }

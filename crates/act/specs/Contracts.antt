@@ -6,63 +6,67 @@ use lib.ListN.{length}
 use lib.IntN.{ℤ}
 use Rattle.raster.specs.declared.dots.Dot.{Dot}
 use Rattle.raster.specs.declared.frame.Bounds.{Bounds}
-use Rattle.raster.specs.declared.frame.Frame.{Frame}
-use Rattle.raster.specs.Frame.{Coord, Fitting}
-use Rattle.rules.specs.declared.environment.Registers.{Registers}
+use Rattle.raster.specs.Frame.{Coord}
+use Rattle.raster.specs.Brush.{Full, NearEnds}
 use Rattle.rules.specs.Environment.{Env}
-use Rattle.rules.specs.Operands.{at}
-use Rattle.act.specs.Held.{registers, look, Cells, Points}
+use Rattle.act.specs.Held.{celled, pointed, look, Cells, Points}
 use Rattle.act.specs.Shown.{Shown, seen}
 
--- what an opcode must show of an environment and a screen
+-- what an opcode must show of an environment, with the brush that is left
 abbrev pub Told : Type 0
 Told = Env → List ℕ → Shown
 
--- the number q came back, and cells are changed alone; and variables, the stack, points, the screen, points and the screen
+-- the number q came back, and cells are changed alone; and variables, the stack, points, the brush, points and the brush
 pub record Turns (q : ℕ) (told : Told) (cs cs' : List ℕ) : Type 0 where
   pub cells : Cells cs'
-  pub tells : (b : Bounds) (ps : List ℤ) (vs st s : List ℕ) → seen q (look b cs' ps vs st) s ≡ told (look b cs ps vs st) s
+  pub tells : (b : Bounds) (ps : List ℤ) (vs st p : List ℕ) → seen q (look b cs' ps vs st) p ≡ told (look b cs ps vs st) p
 
 pub record Sets (q : ℕ) (told : Told) (cs cs' vs vs' : List ℕ) : Type 0 where
   pub cells : Cells cs'
-  pub tells : (b : Bounds) (ps : List ℤ) (st s : List ℕ) → seen q (look b cs' ps vs' st) s ≡ told (look b cs ps vs st) s
+  pub tells : (b : Bounds) (ps : List ℤ) (st p : List ℕ) → seen q (look b cs' ps vs' st) p ≡ told (look b cs ps vs st) p
 
 pub record Stacks (q : ℕ) (told : Told) (cs cs' st st' : List ℕ) : Type 0 where
   pub cells : Cells cs'
   pub deep : length st' ≡ 16
-  pub tells : (b : Bounds) (ps : List ℤ) (vs s : List ℕ) → seen q (look b cs' ps vs st') s ≡ told (look b cs ps vs st) s
+  pub tells : (b : Bounds) (ps : List ℤ) (vs p : List ℕ) → seen q (look b cs' ps vs st') p ≡ told (look b cs ps vs st) p
 
 pub record Moves (q : ℕ) (told : Told) (cs cs' : List ℕ) (ps ps' : List ℤ) : Type 0 where
   pub cells : Cells cs'
   pub points : Points ps'
-  pub tells : (b : Bounds) (vs st s : List ℕ) → seen q (look b cs' ps' vs st) s ≡ told (look b cs ps vs st) s
+  pub tells : (b : Bounds) (vs st p : List ℕ) → seen q (look b cs' ps' vs st) p ≡ told (look b cs ps vs st) p
 
-pub record Paints (q : ℕ) (told : Told) (b : Bounds) (cs cs' : List ℕ) (ps : List ℤ) (s s' : List ℕ) : Type 0 where
+-- a brush that can be painted with
+abbrev pub Brushed : List ℕ → Type 0
+Brushed p = Full p × NearEnds p
+
+pub record Paints (q : ℕ) (told : Told) (cs cs' p' : List ℕ) : Type 0 where
   pub cells : Cells cs'
-  pub tells : (vs st : List ℕ) → seen q (look b cs' ps vs st) s' ≡ told (look b cs ps vs st) s
+  pub brush : Brushed p'
+  pub tells : (b : Bounds) (ps : List ℤ) (vs st : List ℕ) → seen q (look b cs' ps vs st) p' ≡ told (look b cs ps vs st) p'
 
-pub record Draws (q : ℕ) (told : Told) (b : Bounds) (cs cs' : List ℕ) (ps ps' : List ℤ) (s s' : List ℕ) : Type 0 where
+pub record Draws (q : ℕ) (told : Told) (cs cs' : List ℕ) (ps ps' : List ℤ) (p' : List ℕ) : Type 0 where
   pub cells : Cells cs'
   pub points : Points ps'
-  pub tells : (vs st : List ℕ) → seen q (look b cs' ps' vs st) s' ≡ told (look b cs ps vs st) s
-
--- what may be drawn on
-abbrev pub frameOf : Bounds → Registers → Frame
-frameOf b r = record { bounds = b; mode = r .mode; window = r .window }
+  pub brush : Brushed p'
+  pub tells : (b : Bounds) (vs st : List ℕ) → seen q (look b cs' ps' vs st) p' ≡ told (look b cs ps vs st) p'
 
 -- a point that raster draws to
 abbrev pub Near : Dot → Type 0
 Near p = Coord (p .x) × Coord (p .y)
 
--- the screen is the frame's, and raster draws from the position
-pub record Drawable (b : Bounds) (cs : List ℕ) (ps : List ℤ) (s : List ℕ) : Type 0 where
+-- what an opcode is handed that paints
+abbrev pub Handed : List ℕ → List ℕ → Type 0
+Handed cs p = Cells cs × Brushed p
+
+-- and one that draws from the position
+pub record Drawable (cs : List ℕ) (ps : List ℤ) (p : List ℕ) : Type 0 where
   pub cells : Cells cs
   pub points : Points ps
-  pub fitting : Fitting (frameOf b (registers cs ps)) s
-  pub here : Near (registers cs ps .position)
+  pub brush : Brushed p
+  pub here : Near (pointed ps .position)
 
 -- at most 16 returns are stacked, in an array of 16
 pub record Stacked (cs st : List ℕ) : Type 0 where
   pub cells : Cells cs
-  pub deep : at cs 3 ≤ 16
+  pub deep : celled cs .depth ≤ 16
   pub full : length st ≡ 16

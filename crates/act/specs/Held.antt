@@ -1,5 +1,5 @@
 -- The registers as the program lends them: numbers in cells, coordinates in points.
-use Prim.Native.Nat.{ℕ, _%_, _<_}
+use Prim.Native.Nat.{ℕ, _%_}
 use mathlib.Core.Path.{_≡_}
 use mathlib.Core.List.{List, [], _∷_}
 use lib.ListN.{length, getD}
@@ -9,11 +9,18 @@ use Rattle.rules.specs.declared.environment.Registers.{Registers}
 use Rattle.rules.specs.Environment.{Env, view, stacked, firsts}
 use Rattle.rules.specs.Operands.{at}
 
+-- as many as there are
+abbrev pub Cells : List ℕ → Type 0
+Cells cs = length cs ≡ 7
+
+abbrev pub Points : List ℤ → Type 0
+Points ps = length ps ≡ 6
+
 -- coordinate i
 abbrev pub coordinate : List ℤ → ℕ → ℤ
 coordinate ps i = getD ps i (pos 0)
 
--- cells: counter, the two values last compared, depth, mode, colour, state; points: position, window
+-- each register at its place: what cells and points hold is read here alone
 abbrev pub registers : List ℕ → List ℤ → Registers
 registers cs ps =
     record {
@@ -28,25 +35,24 @@ registers cs ps =
       state = at cs 6 % 256;
     }
 
--- registers, spread over them; colour and state are bytes
-pub record Spread (r : Registers) (cs : List ℕ) : Type 0 where
-  pub cells : cs ≡ r .counter .0 ∷ r .first ∷ r .second ∷ r .depth ∷ r .mode ∷ r .colour ∷ r .state ∷ []
-  pub colour : r .colour < 256
-  pub state : r .state < 256
+-- what is read of cells alone, and of points alone
+abbrev pub celled : List ℕ → Registers
+celled cs = registers cs []
 
+abbrev pub pointed : List ℤ → Registers
+pointed ps = registers [] ps
+
+-- registers spread over both: position and window are the points, and cells hold the others where they are read
 abbrev pub points : Registers → List ℤ
 points r = r .position .x ∷ r .position .y ∷ r .window .x0 ∷ r .window .y0 ∷ r .window .x1 ∷ r .window .y1 ∷ []
+
+pub record Spread (r : Registers) (cs : List ℕ) : Type 0 where
+  pub full : Cells cs
+  pub reads : registers cs (points r) ≡ r
 
 -- the environment that all of it stands for
 abbrev pub look : Bounds → List ℕ → List ℤ → List ℕ → List ℕ → Env
 look b cs ps vs st = view b (registers cs ps) vs st
-
--- as many as there are registers
-abbrev pub Cells : List ℕ → Type 0
-Cells cs = length cs ≡ 7
-
-abbrev pub Points : List ℤ → Type 0
-Points ps = length ps ≡ 6
 
 -- cells, or points, that show the environment with one thing changed, whatever else it holds
 pub record Recelled (f : Env → Env) (cs cs' : List ℕ) : Type 0 where

@@ -1,20 +1,22 @@
 // The registers that opcodes change, lent as two arrays.
 use numbers::place::WordIndex;
 use raster::dots::Dot;
+use raster::frame::Bounds;
+use raster::frame::Frame;
 use raster::frame::Window;
 use rules::environment::Registers;
 ghost use mathlib.Core.Path.{_≡_};
 ghost use mathlib.Core.List.{List};
-ghost use Prim.Native.Nat.{ℕ, _%_};
+ghost use Prim.Native.Nat.{ℕ};
+ghost use Rattle.rules.specs.Environment as Environment;
 ghost use Rattle.rules.specs.Environment.{goto, compared, clipped, coloured, turned, moved, windowed, stateOf};
-ghost use Rattle.rules.specs.Operands.{at};
 ghost use Rattle.act.specs.Held as Held;
-ghost use Rattle.act.specs.Held.{registers, Cells, Points, Recelled, Repointed, Deepened};
+ghost use Rattle.act.specs.Held.{registers, celled, pointed, look, Cells, Points, Recelled, Repointed, Deepened};
 
-// 0 counter, 1 and 2 the values last compared, 3 depth, 4 clip mode, 5 colour, 6 state.
+// Numbers, each at the place where the functions below read it.
 pub type Cells = [u32; 7];
 
-// 0 and 1 position, 2 to 5 window.
+// Coordinates: 0 and 1 position, 2 to 5 window.
 pub type Points = [i32; 6];
 
 // Spread over the two arrays.
@@ -58,12 +60,12 @@ pub fn gathered(cells: &Cells, points: &Points) -> Registers
 }
 
 pub fn counter(cells: &Cells) -> WordIndex
-    ensures { λ r. ⌜ r .0 ≡ at (now (cells .entry)) 0 ⌝ }
+    ensures { λ r. ⌜ r ≡ celled (now (cells .entry)) .counter ⌝ }
 {
     WordIndex(cells[0])
 }
 
-// The last thing that an opcode does.
+// The last thing that an opcode does: nothing is to be painted.
 pub fn go_to(cells: &mut Cells, i: WordIndex) -> u8
     requires { ⌜ Cells (now cells) ⌝ }
     ensures { λ q. ⌜ (q ≡ 0) × Recelled (goto (i .0)) (now (cells .entry)) (now (cells .exit)) ⌝ }
@@ -72,14 +74,23 @@ pub fn go_to(cells: &mut Cells, i: WordIndex) -> u8
     0
 }
 
+// The same, and what the brush holds is to be painted.
+pub fn go_painting(cells: &mut Cells, i: WordIndex) -> u8
+    requires { ⌜ Cells (now cells) ⌝ }
+    ensures { λ q. ⌜ (q ≡ 1) × Recelled (goto (i .0)) (now (cells .entry)) (now (cells .exit)) ⌝ }
+{
+    cells[0] = i.0;
+    1
+}
+
 pub fn first(cells: &Cells) -> u32
-    ensures { λ r. ⌜ r ≡ at (now (cells .entry)) 1 ⌝ }
+    ensures { λ r. ⌜ r ≡ celled (now (cells .entry)) .first ⌝ }
 {
     cells[1]
 }
 
 pub fn second(cells: &Cells) -> u32
-    ensures { λ r. ⌜ r ≡ at (now (cells .entry)) 2 ⌝ }
+    ensures { λ r. ⌜ r ≡ celled (now (cells .entry)) .second ⌝ }
 {
     cells[2]
 }
@@ -93,7 +104,7 @@ pub fn keep_compared(cells: &mut Cells, first: u32, second: u32)
 }
 
 pub fn depth(cells: &Cells) -> u32
-    ensures { λ r. ⌜ r ≡ at (now (cells .entry)) 3 ⌝ }
+    ensures { λ r. ⌜ r ≡ celled (now (cells .entry)) .depth ⌝ }
 {
     cells[3]
 }
@@ -106,7 +117,7 @@ pub fn set_depth(cells: &mut Cells, n: u32)
 }
 
 pub fn mode(cells: &Cells) -> u32
-    ensures { λ r. ⌜ r ≡ at (now (cells .entry)) 4 ⌝ }
+    ensures { λ r. ⌜ r ≡ celled (now (cells .entry)) .mode ⌝ }
 {
     cells[4]
 }
@@ -119,7 +130,7 @@ pub fn set_mode(cells: &mut Cells, n: u32)
 }
 
 pub fn colour(cells: &Cells) -> u8
-    ensures { λ r. ⌜ r ≡ at (now (cells .entry)) 5 % 256 ⌝ }
+    ensures { λ r. ⌜ r ≡ celled (now (cells .entry)) .colour ⌝ }
 {
     (cells[5] % 256) as u8
 }
@@ -132,7 +143,7 @@ pub fn set_colour(cells: &mut Cells, c: u8)
 }
 
 pub fn state(cells: &Cells) -> u8
-    ensures { λ r. ⌜ r ≡ at (now (cells .entry)) 6 % 256 ⌝ }
+    ensures { λ r. ⌜ r ≡ celled (now (cells .entry)) .state ⌝ }
 {
     (cells[6] % 256) as u8
 }
@@ -145,7 +156,7 @@ pub fn set_state(cells: &mut Cells, n: u8)
 }
 
 pub fn position(points: &Points) -> Dot
-    ensures { λ p. ⌜ ((cs : List ℕ) → p ≡ registers cs (now (points .entry)) .position) ⌝ }
+    ensures { λ p. ⌜ p ≡ pointed (now (points .entry)) .position ⌝ }
 {
     Dot {
         x: points[0],
@@ -164,7 +175,7 @@ pub fn set_position(points: &mut Points, p: Dot)
 }
 
 pub fn window(points: &Points) -> Window
-    ensures { λ w. ⌜ ((cs : List ℕ) → w ≡ registers cs (now (points .entry)) .window) ⌝ }
+    ensures { λ w. ⌜ w ≡ pointed (now (points .entry)) .window ⌝ }
 {
     Window {
         x0: points[2],
@@ -186,4 +197,15 @@ pub fn set_window(points: &mut Points, w: Window)
     points[3] = y0;
     points[4] = x1;
     points[5] = y1;
+}
+
+// Size and pane, mode and window: what may be drawn on.
+pub fn frame(b: Bounds, cells: &Cells, points: &Points) -> Frame
+    ensures { λ f. ⌜ ((vs st : List ℕ) → f ≡ Environment.frame (look b (now (cells .entry)) (now (points .entry)) vs st)) ⌝ }
+{
+    Frame {
+        bounds: b,
+        mode: mode(cells),
+        window: window(points),
+    }
 }

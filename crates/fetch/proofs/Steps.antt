@@ -21,12 +21,12 @@ use Rattle.fetch.specs.declared.source.Taken.the-variants.{Refused, Got}
 use Rattle.fetch.specs.Stages.{takenOf}
 
 module _ (w : List ℕ) (e : Env) where
-  pub step-20 : length w ≤ e .counter → step w e ≡ refused (verdict 20)
+  pub step-20 : length w ≤ e .flow .counter → step w e ≡ refused (verdict 20)
   unfolding step
   step-20 h = rw (le-leb _ _ h)
 
-  module _ (h : e .counter < length w) where
-    pub step-21 : formOf (at w (e .counter)) ≡ Unknown → step w e ≡ refused (verdict 21)
+  module _ (h : e .flow .counter < length w) where
+    pub step-21 : formOf (at w (e .flow .counter)) ≡ Unknown → step w e ≡ refused (verdict 21)
     unfolding step
     step-21 k = rw (lt-leb _ _ h, k)
 
@@ -35,12 +35,12 @@ module _ (w : List ℕ) (e : Env) where
     resolved op (Refused n) = refused (verdict n)
     resolved op (Got o next) = carried (rule op o (length w) (goto (next .0) e)) e
 
-    pub step-taken : {op : Op} {s : Source} → formOf (at w (e .counter)) ≡ Known op s
-        → step w e ≡ resolved op (takenOf (pieces s) w (e .counter) (e .variables))
+    pub step-taken : {op : Op} {s : Source} → formOf (at w (e .flow .counter)) ≡ Known op s
+        → step w e ≡ resolved op (takenOf (pieces s) w (e .flow .counter) (e .variables))
     unfolding step takenOf
     step-taken {op} {s} k =
-        let next = e .counter + sizeOf s in
-        rw (lt-leb _ _ h, k) (go (operands s w (e .counter) (e .variables)) next (ltb (length w) next) (ltb 63 (highest (pieces s) w (e .counter) 1)))
+        let next = e .flow .counter + sizeOf s in
+        rw (lt-leb _ _ h, k) (go (operands s w (e .flow .counter) (e .variables)) next (ltb (length w) next) (ltb 63 (highest (pieces s) w (e .flow .counter) 1)))
       where
         go : (o : Operands) (next : ℕ) (b d : Bool)
             → check 22 b (check 23 d (carried (rule op o (length w) (goto next e)) e))

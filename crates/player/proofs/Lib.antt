@@ -7,5 +7,7 @@ pub mod Mixes
 pub mod Promises
 pub mod Drawings
 pub mod Hosts
+pub mod Doors
+pub mod Turning
 pub mod Toys
 pub mod Strays

@@ -11,10 +11,12 @@ use mir.Syntax.{w32}
 use mir.Val.{toZ, ofZ}
 use mir.Facts.{toZ-ofZ}
 use borrow.Author.Tests.{lt-ltb, le-ltb, le-leb, lt-leb, ne-eqb}
+use Rattle.raster.specs.declared.dots.Dot.{Dot}
+use Rattle.raster.specs.declared.moved.Spot.{Spot}
 use Rattle.raster.specs.Shapes.{eqZ}
 use Rattle.raster.specs.Frame.{Coord}
 use Rattle.raster.specs.Line.{gap}
-use Rattle.raster.specs.Moved.{bias, gapB}
+use Rattle.raster.specs.Moved.{bias, spotOf, dotOf, gapB}
 use Rattle.raster.proofs.Tests.{same, eq→T}
 
 pub bias-lt : (z : ℤ) → mag z < 65536 → bias z < 131072
@@ -48,6 +50,24 @@ pub neg-minus : (n k : ℕ) → negsuc n -ℤ pos k ≡ subℕ 0 (suc n + k)
 neg-minus n zero = sub-same 0 (suc n) 0 (suc n + 0) (omega arith)
 neg-minus n (suc k) = sym (sub-lt 0 (suc n + suc k) (omega arith) ∙ ap negsuc (omega arith))
 
+-- ---- up and down again, and down and up
+down-bias : (z : ℤ) → Coord z → subℕ (bias z) 65536 ≡ z
+down-bias (pos n) h = sub-ge (n + 65536) 65536 (omega arith) ∙ ap pos (omega arith)
+down-bias (negsuc n) h = let l = h .small in sub-lt (65535 - n) 65536 (omega arith) ∙ ap negsuc (omega arith)
+
+bias-down : (n : ℕ) → bias (subℕ n 65536) ≡ n
+bias-down n = by (decLt n 65536)
+  where
+    by : Dec (n < 65536) → bias (subℕ n 65536) ≡ n
+    by (yes h) = ap bias (sub-lt n 65536 h) ∙ (omega arith)
+    by (no h) = ap bias (sub-ge n 65536 (omega arith)) ∙ (omega arith)
+
+pub dot-back : (d : Dot) → Coord (d .x) × Coord (d .y) → dotOf (spotOf d) ≡ d
+dot-back d h = λ i. record { x = down-bias (d .x) (h .0) i; y = down-bias (d .y) (h .1) i }
+
+pub spot-back : (p : Spot) → spotOf (dotOf p) ≡ p
+spot-back p = λ i. record { x = bias-down (p .x) i; y = bias-down (p .y) i }
+
 -- ---- order and equality
 leb-iff : (a b c d : ℕ) → (a ≤ b → c ≤ d) → (c ≤ d → a ≤ b) → leb a b ≡ leb c d
 leb-iff a b c d f g = same (leb a b) (leb c d) (λ t. le→leb c d (f (leb→le a b t))) (λ t. le→leb a b (g (leb→le c d t)))
@@ -68,11 +88,7 @@ le-is a (pos b) h k = le-pos a b h
 le-is (pos a) (negsuc b) h k = pos-le (negsuc b) a k
 le-is (negsuc a) (negsuc b) h k = leb-iff b a (65535 - a) (65535 - b) (λ l. omega arith) (λ l. omega arith)
 
-pub eq-pos : (z : ℤ) (i : ℕ) → mag z < 65536 → eqZ z (pos i) ≡ eqb (bias z) (i + 65536)
-eq-pos (pos n) i h = eqb-iff n i (n + 65536) (i + 65536) (λ e. omega arith) (λ e. omega arith)
-eq-pos (negsuc n) i h = sym (ne-eqb (65535 - n) (i + 65536) (omega arith))
-
--- the same of a number that is given moved up
+-- a number that is given moved up
 pub sub-pos : (x i : ℕ) → eqZ (subℕ x 65536) (pos i) ≡ eqb x (i + 65536)
 sub-pos x i = by (decLt x 65536)
   where

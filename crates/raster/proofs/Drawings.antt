@@ -6,20 +6,20 @@ use Prim.Native.Nat.{ℕ, _/_, _%_, _<_}
 use native.Mathlib.Nat.{mod-lt, div-lt-iff-lt-mul}
 use lib.IntN.{pos}
 use lib.ListN.{length}
-use Rattle.raster.specs.declared.dots.Dot.{Dot}
+use Rattle.raster.specs.declared.moved.Spot.{Spot}
 use Rattle.raster.specs.declared.frame.Frame.{Frame}
 use Rattle.raster.specs.Shapes.{Shape, dot, all}
-use Rattle.raster.specs.Frame.{Coord, Fitting}
+use Rattle.raster.specs.Frame.{Fitting}
 use Rattle.raster.specs.Paint.{hit, paint}
-use Rattle.raster.specs.Moved.{spotOf, dotB}
+use Rattle.raster.specs.Moved.{dotOf, dotB}
 use Rattle.raster.specs.Rects.{pixels, inRect, rectOf}
 use Rattle.raster.proofs.Recolour.{agree}
 use Rattle.raster.proofs.Rectangles.{drawable-is}
-use Rattle.raster.proofs.Coordinates.{eq-pos}
+use Rattle.raster.proofs.Coordinates.{sub-pos}
 use Rattle.raster.proofs.Rows.{whole}
 
-pub dot-is : (d : Dot) → Coord (d .x) → Coord (d .y) → (i j : ℕ) → dot d (pos i) (pos j) ≡ dotB (spotOf d) i j
-dot-is d h k i j = ap₂ (λ (a b : Bool). a && b) (eq-pos (d .x) i (h .small)) (eq-pos (d .y) j (k .small))
+pub dot-is : (p : Spot) (i j : ℕ) → dot (dotOf p) (pos i) (pos j) ≡ dotB p i j
+dot-is p i j = ap₂ (λ (a b : Bool). a && b) (sub-pos (p .x) i) (sub-pos (p .y) j)
 
 module _ (f : Frame) (s : List ℕ) (h : Fitting f s) where
   -- a byte of the screen is in one of its rows

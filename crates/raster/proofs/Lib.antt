@@ -20,3 +20,5 @@ pub mod Paces
 pub mod Parts
 pub mod Rows
 pub mod Drawings
+pub mod Spelt
+pub mod Brushes

@@ -5,6 +5,7 @@ pub mod Frame
 pub mod Paint
 pub mod Line
 pub mod Stores
+pub mod Brush
 -- What only private functions promise:
 pub mod Moved
 pub mod Rects

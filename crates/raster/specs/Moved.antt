@@ -1,10 +1,12 @@
 -- Coordinates moved up by 65,536, so that they are natural numbers: names that end in B speak of such.
 use mathlib.Core.Bool.{Bool, cond, _&&_}
 use Prim.Native.Nat.{ℕ, _+_, _-_}
-use lib.IntN.{ℤ, pos, negsuc}
+use lib.IntN.{ℤ, pos, negsuc, subℕ}
 use lib.Dec.{eqb}
 use Rattle.raster.specs.declared.dots.Dot.{Dot}
+use Rattle.raster.specs.declared.line.Line.{Line}
 use Rattle.raster.specs.declared.moved.Spot.{Spot}
+use Rattle.raster.specs.Frame.{Coord}
 
 -- z + 65,536
 abbrev pub bias : ℤ → ℕ
@@ -13,6 +15,17 @@ bias (negsuc n) = 65535 - n
 
 abbrev pub spotOf : Dot → Spot
 spotOf d = record { x = bias (d .x); y = bias (d .y) }
+
+-- and down again
+abbrev pub dotOf : Spot → Dot
+dotOf p = record { x = subℕ (p .x) 65536; y = subℕ (p .y) 65536 }
+
+abbrev pub lineOf : Spot → Spot → Line
+lineOf p q = record { from = dotOf p; to = dotOf q }
+
+-- both are coordinates
+abbrev pub NearB : Spot → Type 0
+NearB p = Coord (dotOf p .x) × Coord (dotOf p .y)
 
 -- the pixel in column i of row j is the dot p
 abbrev pub dotB : Spot → ℕ → ℕ → Bool

@@ -1,11 +1,12 @@
 // One dot.
 use crate::frame::Frame;
-use crate::moved::spot_of;
+use crate::moved::Spot;
 use crate::rect::store;
 use crate::rect::visible;
 ghost use mathlib.Core.Path.{_≡_};
 ghost use Rattle.raster.specs.Shapes.{dot};
-ghost use Rattle.raster.specs.Frame.{Coord, Fitting};
+ghost use Rattle.raster.specs.Frame.{Fitting};
+ghost use Rattle.raster.specs.Moved.{dotOf};
 ghost use Rattle.raster.specs.Paint.{paint};
 
 #[repr(C)]
@@ -15,12 +16,10 @@ pub struct Dot {
 }
 
 // The dot, where it is drawable.
-pub fn plot(screen: &mut [u8], f: Frame, d: Dot, c: u8)
+pub fn plot(screen: &mut [u8], f: Frame, p: Spot, c: u8)
     requires { ⌜ Fitting f (now screen) ⌝ }
-    requires { ⌜ Coord (d .x) × Coord (d .y) ⌝ }
-    ensures { λ _. ⌜ now (screen .exit) ≡ paint f (dot d) c (now (screen .entry)) ⌝ }
+    ensures { λ _. ⌜ now (screen .exit) ≡ paint f (dot (dotOf p)) c (now (screen .entry)) ⌝ }
 {
-    let p = spot_of(d);
     if visible(f, p) {
         store(screen, f.bounds.width, p, c);
     }

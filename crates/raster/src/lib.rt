@@ -1,8 +1,9 @@
 // Which dots are painted: a dot, a line and a fill on a lent screen, within a frame.
 pub mod frame; // screen, pane and clip window
+pub mod brush; // what is to be painted, and the painting of it
 pub mod dots; // one dot
 pub mod line; // a line's dots
-pub mod fill; // every drawable dot
+mod fill; // every drawable dot
 mod moved; // coordinates as unsigned numbers
 mod course; // a line from its start along the long axis
 mod rect; // the drawable columns and rows

@@ -25,7 +25,7 @@ pub fn row_part(screen: &mut [u8], w: u32, y: u32, x0: u32, x1: u32, c: u8)
     ensures { λ _. ⌜ now (screen .exit) ≡ pixels w (inRect (rowPart y x0 x1)) c (now (screen .entry)) ⌝ }
 {
     if x0 <= x1 {
-        let at = ((y - 65536) * w) as usize;
+        let at = (y - 65536) as usize * (w as usize);
         set_bytes(
             screen,
             at + (x0 - 65536) as usize,

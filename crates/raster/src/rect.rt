@@ -7,7 +7,9 @@ use crate::moved::biased;
 use crate::moved::larger;
 use crate::moved::smaller;
 ghost use mathlib.Core.Path.{_≡_};
-ghost use Prim.Native.Nat.{_<_};
+ghost use mathlib.Core.Bool.{_&&_};
+ghost use Prim.Native.Nat.{_<_, _≤_};
+ghost use lib.Dec.{leb};
 ghost use lib.ListN.{set};
 ghost use Rattle.raster.specs.Frame.{Coord, Sane};
 ghost use Rattle.raster.specs.Rects.{byteB, insideB, paneRect, windowRect, overlapOf, rectOf, Placed, Seen};
@@ -84,12 +86,24 @@ fn inside(r: Rect, p: Spot) -> bool
     p.y <= r.b
 }
 
-// The dot is drawable: what a single dot asks in place of the rectangle.
+// x is one of lo to hi, by one comparison: from below lo it wraps to above them all.
+fn among(lo: u32, hi: u32, x: u32) -> bool
+    requires { ⌜ lo ≤ hi ⌝ }
+    ensures { λ b. ⌜ b ≡ (leb lo x && leb x hi) ⌝ }
+{
+    std::num::wrapping_sub_u32(x, lo) <= hi - lo
+}
+
+// The dot is drawable: what a single dot asks in place of the rectangle. No pane is empty.
 pub fn visible(f: Frame, p: Spot) -> bool
     requires { ⌜ Sane f ⌝ }
     ensures { λ b. ⌜ b ≡ insideB (rectOf f) (p .x) (p .y) ⌝ }
 {
-    if !inside(pane_rect(f.bounds.pane), p) {
+    let pane = pane_rect(f.bounds.pane);
+    if !among(pane.l, pane.r, p.x) {
+        return false;
+    }
+    if !among(pane.t, pane.b, p.y) {
         return false;
     }
     if f.mode == 0 {

@@ -47,8 +47,8 @@ rule-keeps Decrement o n e = refl
 rule-keeps Compare o n e = refl
 rule-keeps Jump o n e = jumped (taken (o .a) e) (absolute (o .b) n) e
 rule-keeps JumpBy o n e = jumped (taken (o .a) e) (relative (o .b) e n) e
-rule-keeps Call o n e = reached (absolute (o .a) n) (pushed (e .counter) e)
-rule-keeps CallBy o n e = reached (relative (o .a) e n) (pushed (e .counter) e)
+rule-keeps Call o n e = reached (absolute (o .a) n) (pushed (e .flow .counter) e)
+rule-keeps CallBy o n e = reached (relative (o .a) e n) (pushed (e .flow .counter) e)
 rule-keeps Return o n e = refl
 rule-keeps ClipMode o n e = refl
 rule-keeps ClipWindow o n e = refl
@@ -74,10 +74,10 @@ checked n false e x h = h
 stays : (f : Form) (r : Rule) (w : List ℕ) (e : Env) → r .env .bounds ≡ e .bounds → Stays bounds e (judged f r w e)
 unfolding carried
 stays f r w e h =
-    checked 20 (leb (length w) (e .counter)) e _
+    checked 20 (leb (length w) (e .flow .counter)) e _
     (checked 21 (unknown f) e _
-    (checked 22 (cut f w (e .counter)) e _
-    (checked 23 (misnamed f w (e .counter)) e _
+    (checked 22 (cut f w (e .flow .counter)) e _
+    (checked 23 (misnamed f w (e .flow .counter)) e _
     (checked 24 (r .breaks 24) e _
     (checked 25 (r .breaks 25) e _
     (checked 26 (r .breaks 26) e _
@@ -87,7 +87,7 @@ stays f r w e h =
 
 pub keeps : (w : List ℕ) → Keeps bounds (afgis w)
 unfolding step
-keeps w = record { steps = λ e. at-form (formOf (at w (e .counter))) e; stops = λ v e. refl }
+keeps w = record { steps = λ e. at-form (formOf (at w (e .flow .counter))) e; stops = λ v e. refl }
   where
     at-form : (f : Form) (e : Env) → Stays bounds e (judged f (ruled f w e) w e)
     at-form f e = stays f (ruled f w e) w e (ruled-keeps f w e)

@@ -14,6 +14,7 @@ use Rattle.raster.specs.Line.{line, side}
 use Rattle.player.specs.Player.{verdict}
 use Rattle.player.specs.Run.{Answer, answer, runs}
 use Rattle.player.specs.Hosted.{answered}
+use Rattle.player.specs.Door.{doorOf}
 use Rattle.rules.specs.Types.{Bounds, Running, Ended, Stopped}
 use Rattle.rules.specs.Table.{formOf}
 use Rattle.rules.specs.Environment.{Env, env, put, clipped, windowed, goto, stacked, turned}
@@ -127,13 +128,17 @@ abbrev pub played : Case → Answer Env
 played c = whole c.words blank c.env c.budget
 
 pub starred : map played cases ≡ map (λ (c : Case). c.want) cases
-unfolding signed32 signed16 low32 sum32 quotient32 remainder32 inWord wordOf indexOf recolourFrom someBelow drawable paint line side formOf carried step door answered runs
+unfolding signed32 signed16 low32 sum32 quotient32 remainder32 inWord wordOf indexOf recolourFrom someBelow drawable paint line side formOf carried step doorOf door answered runs
 starred = refl
 
 pub edged : map played edges ≡ map (λ (c : Case). c.want) edges
-unfolding signed32 signed16 low32 inWord recolourFrom someBelow drawable paint line formOf carried step door answered runs
+unfolding signed32 signed16 low32 inWord recolourFrom someBelow drawable paint line formOf carried step doorOf door answered runs
 edged = refl
 
 -- the fresh environment, field by field
-pub fresh-fields : e₀ ≡ env (bounds 0) (replicate 64 0) (record { x = pos 0; y = pos 0 }) 15 0 (record { x0 = pos 0; y0 = pos 0; x1 = pos 4; y1 = pos 2 }) 0 0 0 [] Running
+pub fresh-fields : e₀
+    ≡ env (bounds 0) (replicate 64 0)
+    (record { position = record { x = pos 0; y = pos 0 }; colour = 15; mode = 0; window = record { x0 = pos 0; y0 = pos 0; x1 = pos 4; y1 = pos 2 } })
+    (record { counter = 0; stack = []; first = 0; second = 0 })
+    Running
 fresh-fields = refl

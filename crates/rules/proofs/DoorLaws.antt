@@ -1,57 +1,43 @@
 -- The door: what it lets in, both ways; that it lets in a fresh environment, and what a call that it let in leaves.
-use Prim.Native.Nat.{ℕ, suc, _-_, _*_, _≤_}
+use Prim.Native.Nat.{ℕ, _-_, _*_, _≤_}
 use mathlib.Core.Path.{_≡_, refl, sym, ap, _∙_, subst}
-use mathlib.Core.Bool.{Bool, true, false, _&&_}
+use mathlib.Core.Bool.{true, _&&_}
 use mathlib.Core.List.{List}
 use native.Mathlib.Nat.{mul-comm}
 use native.Mathlib.Omega.{arith}
 use lib.ListN.{length}
-use lib.Dec.{leb, ltb, eqb, lit≤}
+use lib.Dec.{leb, ltb, lit≤}
 use lib.IntN.{ℤ, pos}
-use borrow.Author.Tests.{leb-true, ltb-true, le-leb, eqb-true, eq-eqb}
+use borrow.Author.Tests.{leb-true, ltb-true, le-leb}
 use Rattle.numbers.specs.Coordinate.{inWord}
 use Rattle.numbers.proofs.Coordinates.{within-mag}
 use Rattle.raster.specs.Frame.{Coord, Sound, Fitting}
-use Rattle.player.specs.Hosted.{Request, answered}
-use Rattle.player.specs.Player.{verdict}
-use Rattle.player.specs.Run.{Answer, answer, runs}
+use Rattle.player.specs.Hosted.{Request}
+use Rattle.player.specs.Run.{Answer, runs}
 use Rattle.player.proofs.Runs.{invariant}
 use Rattle.player.proofs.Hosts.{hosted-obeys}
+use Rattle.player.proofs.Doors as Doors
 use Rattle.rules.specs.Types.{Bounds, Window}
 use Rattle.rules.specs.Environment.{Env, frame}
 use Rattle.rules.specs.Step.{afgis}
-use Rattle.rules.specs.Door.{sizeFits, paneFits, windowFits, between, fits, unless, door, machine, whole}
+use Rattle.rules.specs.Door.{sizeFits, paneFits, windowFits, between, fits, door, machine, whole}
 use Rattle.rules.specs.Fresh.{fresh}
 use Rattle.rules.proofs.Ranges.{both, one, other, Fits, joined, parted}
 use Rattle.rules.proofs.Kept.{step-keeps}
 use Rattle.rules.proofs.Alone.{keeps}
 
--- ---- what the door lets in
-pub record Open (q : Request (List ℕ)) (e : Env) (bytes : ℕ) : Type 0 where
-  pub size : sizeFits (e .bounds) ≡ true
-  pub area : bytes ≡ e .bounds .width * e .bounds .height
-  pub ranges : fits e ≡ true
-  pub few : length (q .list) ≤ 65536
-  pub short : q .budget ≤ 1000000
-
-came : (n : ℕ) (b : Bool) (x : ℕ) → unless (suc n) b x ≡ 0 → (b ≡ true) × (x ≡ 0)
-came n true x h = (refl, h)
-came n false x h = absurd (omega (arith, h))
+-- ---- what the door lets in, both ways
+abbrev pub Open : Request (List ℕ) → Env → ℕ → Type 0
+Open q e bytes = Doors.Open q (e .bounds) (fits e) bytes
 
 module _ (q : Request (List ℕ)) (e : Env) (bytes : ℕ) where
   pub opened : door q e bytes ≡ 0 → Open q e bytes
   unfolding door
-  opened h =
-      let a = came 9 (sizeFits (e .bounds)) _ h in
-      let b = came 10 (eqb bytes (e .bounds .width * e .bounds .height)) _ (a .1) in
-      let c = came 11 (fits e) _ (b .1) in
-      let d = came 12 (leb (length (q .list)) 65536) _ (c .1) in
-      let f = came 13 (leb (q .budget) 1000000) _ (d .1) in
-      record { size = a .0; area = eqb-true _ _ (b .0); ranges = c .0; few = leb-true _ _ (d .0); short = leb-true _ _ (f .0) }
+  opened h = Doors.opened q (e .bounds) (fits e) bytes h
 
   pub opens : Open q e bytes → door q e bytes ≡ 0
   unfolding door
-  opens o = simp (o .size, eq-eqb _ _ (o .area), o .ranges, le-leb _ _ (o .few), le-leb _ _ (o .short))
+  opens o = Doors.opens q (e .bounds) (fits e) bytes o
 
 -- ---- what is let in may be drawn on
 pub coord : (z : ℤ) → inWord z ≡ true → Coord z
@@ -83,7 +69,7 @@ words w h =
 pub fitting : (e : Env) (s : List ℕ) → sizeFits (e .bounds) ≡ true → fits e ≡ true → length s ≡ e .bounds .width * e .bounds .height → Fitting (frame e) s
 fitting e s size h area =
     let f = parted e h in
-    record { sane = record { bounds = sound (e .bounds) size (f .0); window = words (e .window) (f .4) }; bytes = area ∙ mul-comm (e .bounds .width) (e .bounds .height) }
+    record { sane = record { bounds = sound (e .bounds) size (f .0); window = words (e .pen .window) (f .1 .window) }; bytes = area ∙ mul-comm (e .bounds .width) (e .bounds .height) }
 
 -- ---- what a run leaves
 module _ (w : List ℕ) (few : length w ≤ 65536) where
@@ -93,24 +79,16 @@ module _ (w : List ℕ) (few : length w ≤ 65536) where
 
 -- ---- the whole answer of a call
 module _ (w s : List ℕ) (e : Env) (budget : ℕ) where
-  pub let-run : door (record { list = w; budget = budget }) e (length s) ≡ 0 → whole w s e budget ≡ runs (afgis w) budget e s 0
-  unfolding answered
-  let-run h = rw h
-
-  pub shut : (n : ℕ) → door (record { list = w; budget = budget }) e (length s) ≡ suc n → whole w s e budget ≡ answer (verdict (suc n)) e s 0
-  unfolding answered
-  shut n h = rw h
-
   -- what a call that was let in leaves is let in again, with the same list and any budget that is allowed
   pub again : (b : ℕ) → door (record { list = w; budget = budget }) e (length s) ≡ 0 → b ≤ 1000000
       → door (record { list = w; budget = b }) (whole w s e budget .env) (length (whole w s e budget .screen)) ≡ 0
   again b h small =
       let a = whole w s e budget in
       let o = opened (record { list = w; budget = budget }) e (length s) h in
-      let f : Fits (e .bounds) (a .env) = subst (λ (x : Answer Env). Fits (e .bounds) (x .env)) (sym (let-run h)) (run-keeps w (o .few) budget e s 0 (o .ranges)) in
+      let f : Fits (e .bounds) (a .env) = subst (λ (x : Answer Env). Fits (e .bounds) (x .env)) (Doors.run-whole machine (record { list = w; budget = budget }) e s 0 (sym h) refl) (run-keeps w (o .few) budget e s 0 (o .ranges)) in
       opens (record { list = w; budget = b }) (a .env) (length (a .screen)) (record {
-        size = ap sizeFits (f .9) ∙ o .size;
-        area = hosted-obeys machine keeps .long (record { list = w; budget = budget }) e s ∙ (o .area ∙ ap (λ (x : Bounds). x .width * x .height) (sym (f .9)));
+        size = ap sizeFits (f .4) ∙ o .size;
+        area = hosted-obeys machine keeps .long (record { list = w; budget = budget }) e s ∙ (o .area ∙ ap (λ (x : Bounds). x .width * x .height) (sym (f .4)));
         ranges = joined (a .env) f;
         few = o .few;
         short = small;
@@ -130,4 +108,10 @@ fresh-fits b s p =
     let zero-fits = small-word 0 (lit≤ tt) in
     let w = side (b .width) (one (between 1 2048 (b .width)) (between 1 2048 (b .height)) s) in
     let h = side (b .height) (other (between 1 2048 (b .width)) (between 1 2048 (b .height)) s) in
-    joined (fresh b) (p, zero-fits, zero-fits, refl, both _ _ (both _ _ zero-fits zero-fits) (both _ _ w h), refl, refl, refl, refl, refl)
+    joined (fresh b) (
+      p,
+      record { x = zero-fits; y = zero-fits; mode = refl; window = both _ _ (both _ _ zero-fits zero-fits) (both _ _ w h) },
+      record { counter = refl; depth = refl; returns = refl },
+      refl,
+      refl,
+    )

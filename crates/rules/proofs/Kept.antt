@@ -13,13 +13,13 @@ use Rattle.numbers.specs.Coordinate.{inWord}
 use Rattle.numbers.specs.Place.{wordOf, indexOf}
 use Rattle.player.specs.Player.{Outcome, refused, verdict}
 use Rattle.player.proofs.Runs.{Leaves}
-use Rattle.rules.specs.Types.{BitAddress, Target, At, Refused, Bounds, Dot, Operands, Op, Noop, End, Load, Add, And, Or, Multiply, Divide, Remainder, Increment, Decrement, Compare, Jump, JumpBy, Call, CallBy, Return, ClipMode, ClipWindow, Colour, MoveTo, MoveBy, Pixel, PixelColour, Line, LineTo, LineBy, Clear, Form, Unknown, Known, Stopped}
+use Rattle.rules.specs.Types.{BitAddress, Target, At, Refused, Bounds, Window, Dot, Operands, Op, Noop, End, Load, Add, And, Or, Multiply, Divide, Remainder, Increment, Decrement, Compare, Jump, JumpBy, Call, CallBy, Return, ClipMode, ClipWindow, Colour, MoveTo, MoveBy, Pixel, PixelColour, Line, LineTo, LineBy, Clear, Form, Unknown, Known, Stopped}
 use Rattle.rules.specs.Table.{formOf}
 use Rattle.rules.specs.Operands.{at, operands, sizeOf, pieces, highest}
-use Rattle.rules.specs.Environment.{Env, goto, moved, turned, pushed, popped, top}
+use Rattle.rules.specs.Environment.{Env, goto, moved, clipped, windowed, turned, pushed, popped, top}
 use Rattle.rules.specs.Opcodes.{Rule, rule, taken, far, absolute, relative, reach, point, shifted}
 use Rattle.rules.specs.Step.{check, carried, ruled, stepAt, step, afgis}
-use Rattle.rules.specs.Door.{indices, between}
+use Rattle.rules.specs.Door.{indices, between, windowFits}
 use Rattle.rules.proofs.Ranges.{both, one, other, neither, Fits}
 
 near : (p : Dot) → far p ≡ false → (inWord (p .x) ≡ true) × (inWord (p .y) ≡ true)
@@ -29,6 +29,20 @@ near p h = go (inWord (p .x)) (inWord (p .y)) h
     go true true q = (refl, refl)
     go true false q = (refl, cc)
     go false b q = (cc, cc)
+
+-- ---- one field changed, and in range
+module _ {b : Bounds} (e : Env) (h : Fits b e) where
+  placed : (p : Dot) → far p ≡ false → Fits b (moved p e)
+  placed p f = let n = near p f in (h .0, record { x = n .0; y = n .1; mode = h .1 .mode; window = h .1 .window }, h .2, h .3, h .4)
+
+  in-mode : (m : ℕ) → m ≤ 2 → Fits b (clipped m e)
+  in-mode m k = (h .0, record { x = h .1 .x; y = h .1 .y; mode = le-leb m 2 k; window = h .1 .window }, h .2, h .3, h .4)
+
+  in-window : (w : Window) → windowFits w ≡ true → Fits b (windowed w e)
+  in-window w k = (h .0, record { x = h .1 .x; y = h .1 .y; mode = h .1 .mode; window = k }, h .2, h .3, h .4)
+
+  gone : (n : ℕ) → n ≤ 65536 → Fits b (goto n e)
+  gone n k = (h .0, h .1, record { counter = le-leb n 65536 k; depth = h .2 .depth; returns = h .2 .returns }, h .3, h .4)
 
 -- ---- the stack
 more : (st : List ℕ) (n : ℕ) → indices st ≡ true → leb n 65536 ≡ true → indices (st ++ (n ∷ [])) ≡ true
@@ -46,16 +60,16 @@ member [] (suc i) h = refl
 member (x ∷ st) zero h = one (leb x 65536) _ h
 member (x ∷ st) (suc i) h = member st i (other (leb x 65536) _ h)
 
-grown : {b : Bounds} (e : Env) → Fits b e → leb 16 (length (e .stack)) ≡ false → Fits b (pushed (e .counter) e)
+grown : {b : Bounds} (e : Env) → Fits b e → leb 16 (length (e .flow .stack)) ≡ false → Fits b (pushed (e .flow .counter) e)
 grown e h room =
-    let short : length (e .stack ++ (e .counter ∷ [])) ≤ 16 = omega (arith, length-append (e .stack) (e .counter ∷ []), leb-false 16 (length (e .stack)) room) in
-    (h .0, h .1, h .2, h .3, h .4, h .5, le-leb _ _ short, more (e .stack) (e .counter) (h .7) (h .5), h .8, h .9)
+    let short : length (e .flow .stack ++ (e .flow .counter ∷ [])) ≤ 16 = omega (arith, length-append (e .flow .stack) (e .flow .counter ∷ []), leb-false 16 (length (e .flow .stack)) room) in
+    (h .0, h .1, record { counter = h .2 .counter; depth = le-leb _ _ short; returns = more (e .flow .stack) (e .flow .counter) (h .2 .returns) (h .2 .counter) }, h .3, h .4)
 
 back : {b : Bounds} (e : Env) → Fits b e → Fits b (goto (top e) (popped e))
 back e h =
-    let d = length (e .stack) - 1 in
-    let short : length (take d (e .stack)) ≤ 16 = omega (arith, length-take d (e .stack), leb-true (length (e .stack)) 16 (h .6)) in
-    (h .0, h .1, h .2, h .3, h .4, member (e .stack) d (h .7), le-leb _ _ short, fewer d (e .stack) (h .7), h .8, h .9)
+    let d = length (e .flow .stack) - 1 in
+    let short : length (take d (e .flow .stack)) ≤ 16 = omega (arith, length-take d (e .flow .stack), leb-true (length (e .flow .stack)) 16 (h .2 .depth)) in
+    (h .0, h .1, record { counter = member (e .flow .stack) d (h .2 .returns); depth = le-leb _ _ short; returns = fewer d (e .flow .stack) (h .2 .returns) }, h .3, h .4)
 
 -- ---- targets, in a list of at most 65,536 words
 abbrev Small : Target → Type 0
@@ -80,15 +94,12 @@ small-word a n h = go (eqb (a .0 % 16) 0)
     go false = tt
 
 reached : {b : Bounds} (t : Target) (e : Env) → Small t → Fits b e → Fits b (reach t e)
-reached (At t) e s h = (h .0, h .1, h .2, h .3, h .4, le-leb (t .0) 65536 s, h .6, h .7, h .8, h .9)
+reached (At t) e s h = gone e h (t .0) s
 reached Refused e s h = h
 
 jumped : {b : Bounds} (taken : Bool) (t : Target) (e : Env) → Small t → Fits b e → Fits b (cond taken (reach t e) e)
 jumped true t e s h = reached t e s h
 jumped false t e s h = h
-
-placed : {b : Bounds} (p : Dot) (e : Env) → far p ≡ false → Fits b e → Fits b (moved p e)
-placed p e f h = let n = near p f in (h .0, n .0, n .1, h .3, h .4, h .5, h .6, h .7, h .8, h .9)
 
 -- ---- each op that breaks nothing
 abbrev Clean : Rule → Type 0
@@ -99,7 +110,7 @@ Clean r =
 module _ (o : Operands) (n : ℕ) (few : n ≤ 65536) where
   rule-keeps : {b : Bounds} (op : Op) (e : Env) → Fits b e → Clean (rule op o n e) → Fits b (rule op o n e .env)
   rule-keeps Noop e h f = h
-  rule-keeps End e h f = (h .0, h .1, h .2, h .3, h .4, h .5, h .6, h .7, refl, h .9)
+  rule-keeps End e h f = (h .0, h .1, h .2, refl, h .4)
   rule-keeps Load e h f = h
   rule-keeps Add e h f = h
   rule-keeps And e h f = h
@@ -111,31 +122,31 @@ module _ (o : Operands) (n : ℕ) (few : n ≤ 65536) where
   rule-keeps Decrement e h f = h
   rule-keeps Compare e h f = h
   rule-keeps Jump e h f = jumped (taken (o .a) e) (absolute (o .b) n) e (small-word (record { 0 = o .b }) n few) h
-  rule-keeps JumpBy e h f = jumped (taken (o .a) e) (relative (o .b) e n) e (small-index (pos (e .counter) +ℤ signed32 (o .b)) n few) h
-  rule-keeps Call e h f = reached (absolute (o .a) n) (pushed (e .counter) e) (small-word (record { 0 = o .a }) n few) (grown e h (f .4))
+  rule-keeps JumpBy e h f = jumped (taken (o .a) e) (relative (o .b) e n) e (small-index (pos (e .flow .counter) +ℤ signed32 (o .b)) n few) h
+  rule-keeps Call e h f = reached (absolute (o .a) n) (pushed (e .flow .counter) e) (small-word (record { 0 = o .a }) n few) (grown e h (f .4))
   rule-keeps CallBy e h f =
-      reached (relative (o .a) e n) (pushed (e .counter) e) (small-index (pos (e .counter) +ℤ signed32 (o .a)) n few) (grown e h (f .4))
+      reached (relative (o .a) e n) (pushed (e .flow .counter) e) (small-index (pos (e .flow .counter) +ℤ signed32 (o .a)) n few) (grown e h (f .4))
   rule-keeps Return e h f = back e h
-  rule-keeps ClipMode e h f = (h .0, h .1, h .2, le-leb (o .a) 2 (ltb-false 2 (o .a) (f .0)), h .4, h .5, h .6, h .7, h .8, h .9)
+  rule-keeps ClipMode e h f = in-mode e h (o .a) (ltb-false 2 (o .a) (f .0))
   rule-keeps ClipWindow e h f =
       let g = neither _ _ (f .1) in
       let p = near (point (o .a) (o .b)) (g .0) in
       let q = near (point (o .c) (o .d)) (g .1) in
-      (h .0, h .1, h .2, h .3, both _ _ (both _ _ (p .0) (p .1)) (both _ _ (q .0) (q .1)), h .5, h .6, h .7, h .8, h .9)
+      in-window e h _ (both _ _ (both _ _ (p .0) (p .1)) (both _ _ (q .0) (q .1)))
   rule-keeps Colour e h f = h
-  rule-keeps MoveTo e h f = placed (point (o .a) (o .b)) e (f .1) h
-  rule-keeps MoveBy e h f = placed (shifted (e .position) (point (o .a) (o .b))) e (neither (far (point (o .a) (o .b))) _ (f .1) .1) h
+  rule-keeps MoveTo e h f = placed e h (point (o .a) (o .b)) (f .1)
+  rule-keeps MoveBy e h f = placed e h (shifted (e .pen .position) (point (o .a) (o .b))) (neither (far (point (o .a) (o .b))) _ (f .1) .1)
   rule-keeps Pixel e h f = h
   rule-keeps PixelColour e h f = h
   rule-keeps Line e h f = h
-  rule-keeps LineTo e h f = placed (point (o .b) (o .c)) e (f .1) h
-  rule-keeps LineBy e h f = placed (shifted (e .position) (point (o .b) (o .c))) e (neither (far (point (o .b) (o .c))) _ (f .1) .1) h
+  rule-keeps LineTo e h f = placed e h (point (o .b) (o .c)) (f .1)
+  rule-keeps LineBy e h f = placed e h (shifted (e .pen .position) (point (o .b) (o .c))) (neither (far (point (o .b) (o .c))) _ (f .1) .1)
   rule-keeps Clear e h f = h
 
 -- ---- a step: a check that refuses stops the environment with a number 20 to 29
 module _ (w : List ℕ) (few : length w ≤ 65536) (b : Bounds) (e : Env) (h : Fits b e) where
   stopped : (n : ℕ) → between 20 29 n ≡ true → Fits b (turned (Stopped (verdict n)) e)
-  stopped n k = (h .0, h .1, h .2, h .3, h .4, h .5, h .6, h .7, k, h .9)
+  stopped n k = (h .0, h .1, h .2, k, h .4)
 
   checked : (n : ℕ) (t : Bool) (x : Outcome Env) → between 20 29 n ≡ true → (t ≡ false → Leaves (afgis w) (Fits b) e x)
       → Leaves (afgis w) (Fits b) e (check n t x)
@@ -144,13 +155,13 @@ module _ (w : List ℕ) (few : length w ≤ 65536) (b : Bounds) (e : Env) (h : F
 
   at-form : (f : Form) → Leaves (afgis w) (Fits b) e (stepAt f w e)
   unfolding carried
-  at-form Unknown = checked 20 (leb (length w) (e .counter)) (refused (verdict 21)) refl (λ p. stopped 21 refl)
+  at-form Unknown = checked 20 (leb (length w) (e .flow .counter)) (refused (verdict 21)) refl (λ p. stopped 21 refl)
   at-form (Known op s) =
       let r = ruled (Known op s) w e in
-      let next = e .counter + sizeOf s in
-      checked 20 (leb (length w) (e .counter)) _ refl
+      let next = e .flow .counter + sizeOf s in
+      checked 20 (leb (length w) (e .flow .counter)) _ refl
       (λ p. checked 22 (ltb (length w) next) _ refl
-      (λ c. checked 23 (ltb 63 (highest (pieces s) w (e .counter) 1)) _ refl
+      (λ c. checked 23 (ltb 63 (highest (pieces s) w (e .flow .counter) 1)) _ refl
       (λ v. checked 24 (r .breaks 24) _ refl
       (λ p24. checked 25 (r .breaks 25) _ refl
       (λ p25. checked 26 (r .breaks 26) _ refl
@@ -159,9 +170,8 @@ module _ (w : List ℕ) (few : length w ≤ 65536) (b : Bounds) (e : Env) (h : F
       (λ p28. checked 29 (r .breaks 29) _ refl
       (λ p29.
       let room : next ≤ 65536 = omega (arith, few, ltb-false (length w) next c) in
-      rule-keeps (operands s w (e .counter) (e .variables)) (length w) few op (goto next e)
-      (h .0, h .1, h .2, h .3, h .4, le-leb next 65536 room, h .6, h .7, h .8, h .9) (p24, p25, p26, p27, p28, p29))))))))))
+      rule-keeps (operands s w (e .flow .counter) (e .variables)) (length w) few op (goto next e) (gone e h next room) (p24, p25, p26, p27, p28, p29))))))))))
 
   pub step-keeps : Leaves (afgis w) (Fits b) e (step w e)
   unfolding step
-  step-keeps = at-form (formOf (at w (e .counter)))
+  step-keeps = at-form (formOf (at w (e .flow .counter)))

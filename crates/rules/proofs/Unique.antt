@@ -10,6 +10,7 @@ use borrow.Author.Tests.{eqb-true}
 use Rattle.player.specs.Player.{verdict}
 use Rattle.player.specs.Run.{Answer, answer}
 use Rattle.player.specs.Hosted.{answered}
+use Rattle.player.specs.Door.{doorOf}
 use Rattle.rules.specs.Types.{Bounds, Running, Ended, Stopped}
 use Rattle.rules.specs.declared.environment.Env as Held
 use Rattle.rules.specs.declared.answer.Answer as Told
@@ -46,24 +47,24 @@ alike a b h =
     record {
       bounds = ap (λ (e : Env). e .bounds) h;
       registers = λ i. record {
-        position = h i .position;
-        window = h i .window;
-        mode = h i .mode;
-        first = h i .first;
-        second = h i .second;
-        counter = record { 0 = h i .counter };
+        position = h i .pen .position;
+        window = h i .pen .window;
+        mode = h i .pen .mode;
+        first = h i .flow .first;
+        second = h i .flow .second;
+        counter = record { 0 = h i .flow .counter };
         depth = depth i;
-        colour = h i .colour;
+        colour = h i .pen .colour;
         state = state i;
       };
       variables = ap (λ (e : Env). e .variables) h;
-      stack = ap (λ (e : Env). e .stack) h;
+      stack = ap (λ (e : Env). e .flow .stack) h;
     }
   where
     depth : a .registers .depth ≡ b .registers .depth
     depth =
         sym (length-firsts (a .registers .depth) (a .stack))
-        ∙ (ap (λ (e : Env). length (e .stack)) h ∙ length-firsts (b .registers .depth) (b .stack))
+        ∙ (ap (λ (e : Env). length (e .flow .stack)) h ∙ length-firsts (b .registers .depth) (b .stack))
 
     state : a .registers .state ≡ b .registers .state
     state = sym (byte-state (a .registers .state)) ∙ (ap (λ (e : Env). byteOf (e .state)) h ∙ byte-state (b .registers .state))
@@ -94,5 +95,5 @@ unique-made b m n p q =
 
 -- the environment of zeros: every run refuses it with 10
 pub zeros-10 : (w s : List ℕ) (budget : ℕ) → whole w s zeros budget ≡ answer (verdict 10) zeros s 0
-unfolding answered door
+unfolding answered doorOf door
 zeros-10 w s budget = refl

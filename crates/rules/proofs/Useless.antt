@@ -8,6 +8,7 @@ use Rattle.numbers.specs.Number.{signed16, low32}
 use Rattle.numbers.specs.Coordinate.{inWord}
 use Rattle.player.specs.Run.{Answer, runs}
 use Rattle.player.specs.Hosted.{answered}
+use Rattle.player.specs.Door.{doorOf}
 use Rattle.rules.specs.Table.{formOf}
 use Rattle.rules.specs.Environment.{Env}
 use Rattle.rules.specs.Step.{carried, step}
@@ -28,7 +29,7 @@ row k answers = getD answers k (whole [] [] e₀ 0)
 
 -- case 5 cut short: the first opcode loads -7
 first-opcode : getD (whole (sevenByTwo 0x0045) blank e₀ 1 .env .variables) 0 0 ≡ 4294967289
-unfolding signed16 low32 inWord formOf carried step door answered runs
+unfolding signed16 low32 inWord formOf carried step doorOf door answered runs
 first-opcode = refl
 
 module _ (box : Box) (keeps : Keeps box) where

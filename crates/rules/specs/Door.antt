@@ -1,35 +1,23 @@
 -- Document 01, the ranges of 'What a call is given' and 10 to 14 of 'Numbers that come back': the door, and the whole answer of a call.
-use Prim.Native.Nat.{ℕ, _*_}
+use Prim.Native.Nat.{ℕ}
 use mathlib.Core.Path.{_≡_}
-use mathlib.Core.Bool.{Bool, true, false, _&&_}
+use mathlib.Core.Bool.{Bool, true, _&&_}
 use mathlib.Core.List.{List, [], _∷_}
 use lib.ListN.{length}
-use lib.Dec.{ltb, leb, eqb}
+use lib.Dec.{leb}
 use Rattle.numbers.specs.Coordinate.{inWord}
 use Rattle.player.specs.Player.{verdict}
 use Rattle.player.specs.Run.{Answer, answer}
 use Rattle.player.specs.Hosted.{Request, Hosted, answered}
-use Rattle.rules.specs.Types.{Bounds, Window, State, Running, Ended, Stopped}
+use Rattle.player.specs.Door.{doorOf}
+pub use Rattle.player.specs.Door.{between, sizeFits, paneFits}
+use Rattle.rules.specs.Types.{Window, State, Running, Ended, Stopped}
 use Rattle.rules.specs.declared.environment.Env as Held
 use Rattle.rules.specs.declared.answer.Answer as Told
-use Rattle.rules.specs.Environment.{Env, held}
+use Rattle.rules.specs.Environment.{Pen, Flow, Env, held}
 use Rattle.rules.specs.Step.{afgis}
 
--- ---- ranges
-
--- lo to hi, both inside
-abbrev pub between : ℕ → ℕ → ℕ → Bool
-between lo hi n = leb lo n && leb n hi
-
--- width and height, each 1 to 2,048
-abbrev pub sizeFits : Bounds → Bool
-sizeFits b = between 1 2048 b.width && between 1 2048 b.height
-
--- both ends inside, not empty, within the screen
-abbrev pub paneFits : Bounds → Bool
-paneFits b =
-    leb (b .pane .left) (b .pane .right) && ltb (b .pane .right) b.width
-    && (leb (b .pane .top) (b .pane .bottom) && ltb (b .pane .bottom) b.height)
+-- ---- ranges: those of size and pane, and the order of 10 to 14, are every player's
 
 -- four signed words
 abbrev pub windowFits : Window → Bool
@@ -50,32 +38,21 @@ stateFits Running = true
 stateFits Ended = true
 stateFits (Stopped v) = between 20 29 v.number
 
--- every other field; variables, compared values and colour are in range by their types
+-- position and window are signed words, the clip mode is 0 to 2; any colour is in range by its type
+abbrev pub penFits : Pen → Bool
+penFits p = inWord (p .position .x) && (inWord (p .position .y) && (leb p.mode 2 && windowFits p.window))
+
+-- compared values are in range by their types
+abbrev pub flowFits : Flow → Bool
+flowFits f = leb f.counter 65536 && stackFits f.stack
+
+-- every field but the size; variables are in range by their types
 abbrev pub fits : Env → Bool
-fits e =
-    paneFits e.bounds
-    && (inWord (e .position .x)
-    && (inWord (e .position .y)
-    && (leb e.mode 2
-    && (windowFits e.window
-    && (leb e.counter 65536
-    && (stackFits e.stack
-    && stateFits e.state))))))
+fits e = paneFits e.bounds && (penFits e.pen && (flowFits e.flow && stateFits e.state))
 
--- ---- the door
-abbrev pub unless : ℕ → Bool → ℕ → ℕ
-unless n true other = other
-unless n false other = n
-
--- the lowest of 10 to 14 that applies, or 0, of a list and a budget, an environment, and the bytes of the screen counted
+-- ---- the door: the lowest of 10 to 14 that applies, or 0, of a list and a budget, an environment, and the bytes of the screen counted
 unfoldable pub door : Request (List ℕ) → Env → ℕ → ℕ
-door q e bytes =
-    unless 10 (sizeFits e.bounds)
-    (unless 11 (eqb bytes (e .bounds .width * e .bounds .height))
-    (unless 12 (fits e)
-    (unless 13 (leb (length q.list) 65536)
-    (unless 14 (leb q.budget 1000000)
-    0))))
+door q e bytes = doorOf q e.bounds (fits e) bytes
 
 -- ---- the whole answer of a call: refused at the door, all as it was, or run
 abbrev pub machine : Hosted

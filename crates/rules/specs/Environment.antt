@@ -9,64 +9,78 @@ use Rattle.player.specs.Player.{verdict}
 use Rattle.rules.specs.Types.{Bounds, Window, Frame, Dot, State, Running, Ended, Stopped, Registers}
 use Rattle.rules.specs.declared.environment.Env as Held
 
-pub record Env : Type 0 where
-  pub bounds : Bounds  -- screen width and height, and the pane
-  pub variables : List ℕ  -- V0 to V63
+-- how is drawn
+pub record Pen : Type 0 where
   pub position : Dot
   pub colour : ℕ  -- the foreground colour
   pub mode : ℕ  -- the clip mode
   pub window : Window  -- the clip window
-  pub first : ℕ  -- the two values last compared
-  pub second : ℕ
+
+-- where the list goes on
+pub record Flow : Type 0 where
   pub counter : ℕ  -- the program counter, a word index
   pub stack : List ℕ  -- the stacked return indices, the last one at the end
+  pub first : ℕ  -- the two values last compared
+  pub second : ℕ
+
+pub record Env : Type 0 where
+  pub bounds : Bounds  -- screen width and height, and the pane
+  pub variables : List ℕ  -- V0 to V63
+  pub pen : Pen
+  pub flow : Flow
   pub state : State
 
-abbrev pub env : Bounds → List ℕ → Dot → ℕ → ℕ → Window → ℕ → ℕ → ℕ → List ℕ → State → Env
-env f vs p c m w a b n st q =
-    record { bounds = f; variables = vs; position = p; colour = c; mode = m; window = w; first = a; second = b; counter = n; stack = st; state = q }
+abbrev pub env : Bounds → List ℕ → Pen → Flow → State → Env
+env b vs p f q = record { bounds = b; variables = vs; pen = p; flow = f; state = q }
 
--- ---- the environment with one thing changed
-abbrev pub put : ℕ → ℕ → Env → Env
-put d v e = env e.bounds (set e.variables d v) e.position e.colour e.mode e.window e.first e.second e.counter e.stack e.state
+-- ---- the environment with one part changed
+abbrev pub penned : Pen → Env → Env
+penned p e = env e.bounds e.variables p e.flow e.state
 
-abbrev pub moved : Dot → Env → Env
-moved p e = env e.bounds e.variables p e.colour e.mode e.window e.first e.second e.counter e.stack e.state
-
-abbrev pub coloured : ℕ → Env → Env
-coloured c e = env e.bounds e.variables e.position c e.mode e.window e.first e.second e.counter e.stack e.state
-
-abbrev pub clipped : ℕ → Env → Env
-clipped m e = env e.bounds e.variables e.position e.colour m e.window e.first e.second e.counter e.stack e.state
-
-abbrev pub windowed : Window → Env → Env
-windowed w e = env e.bounds e.variables e.position e.colour e.mode w e.first e.second e.counter e.stack e.state
-
-abbrev pub compared : ℕ → ℕ → Env → Env
-compared a b e = env e.bounds e.variables e.position e.colour e.mode e.window a b e.counter e.stack e.state
-
-abbrev pub goto : ℕ → Env → Env
-goto n e = env e.bounds e.variables e.position e.colour e.mode e.window e.first e.second n e.stack e.state
-
-abbrev pub stacked : List ℕ → Env → Env
-stacked st e = env e.bounds e.variables e.position e.colour e.mode e.window e.first e.second e.counter st e.state
+abbrev pub flowed : Flow → Env → Env
+flowed f e = env e.bounds e.variables e.pen f e.state
 
 abbrev pub turned : State → Env → Env
-turned q e = env e.bounds e.variables e.position e.colour e.mode e.window e.first e.second e.counter e.stack q
+turned q e = env e.bounds e.variables e.pen e.flow q
+
+-- ---- with one thing changed
+abbrev pub put : ℕ → ℕ → Env → Env
+put d v e = env e.bounds (set e.variables d v) e.pen e.flow e.state
+
+abbrev pub moved : Dot → Env → Env
+moved p e = let k = e.pen in penned (record { position = p; colour = k.colour; mode = k.mode; window = k.window }) e
+
+abbrev pub coloured : ℕ → Env → Env
+coloured c e = let k = e.pen in penned (record { position = k.position; colour = c; mode = k.mode; window = k.window }) e
+
+abbrev pub clipped : ℕ → Env → Env
+clipped m e = let k = e.pen in penned (record { position = k.position; colour = k.colour; mode = m; window = k.window }) e
+
+abbrev pub windowed : Window → Env → Env
+windowed w e = let k = e.pen in penned (record { position = k.position; colour = k.colour; mode = k.mode; window = w }) e
+
+abbrev pub goto : ℕ → Env → Env
+goto n e = let k = e.flow in flowed (record { counter = n; stack = k.stack; first = k.first; second = k.second }) e
+
+abbrev pub stacked : List ℕ → Env → Env
+stacked st e = let k = e.flow in flowed (record { counter = k.counter; stack = st; first = k.first; second = k.second }) e
+
+abbrev pub compared : ℕ → ℕ → Env → Env
+compared a b e = let k = e.flow in flowed (record { counter = k.counter; stack = k.stack; first = a; second = b }) e
 
 -- one return more on the stack, one less, and the last one
 abbrev pub pushed : ℕ → Env → Env
-pushed n e = stacked (e.stack ++ (n ∷ [])) e
+pushed n e = stacked (e .flow .stack ++ (n ∷ [])) e
 
 abbrev pub popped : Env → Env
-popped e = stacked (take (length e.stack - 1) e.stack) e
+popped e = stacked (take (length (e .flow .stack) - 1) (e .flow .stack)) e
 
 abbrev pub top : Env → ℕ
-top e = getD e.stack (length e.stack - 1) 0
+top e = getD (e .flow .stack) (length (e .flow .stack) - 1) 0
 
 -- what may be drawn on: screen and pane, mode and window
 abbrev pub frame : Env → Frame
-frame e = record { bounds = e.bounds; mode = e.mode; window = e.window }
+frame e = record { bounds = e.bounds; mode = e .pen .mode; window = e .pen .window }
 
 -- ---- what the program's struct stands for
 
@@ -85,9 +99,15 @@ firsts zero xs = []
 firsts (suc n) [] = 0 ∷ firsts n []
 firsts (suc n) (x ∷ xs) = x ∷ firsts n xs
 
--- what lies past the last return stacked is no part of the environment
+abbrev pub penOf : Registers → Pen
+penOf r = record { position = r.position; colour = r.colour; mode = r.mode; window = r.window }
+
+-- what lies past the last return stacked is no part of it
+abbrev pub flowOf : Registers → List ℕ → Flow
+flowOf r st = record { counter = r .counter .0; stack = firsts r.depth st; first = r.first; second = r.second }
+
 abbrev pub view : Bounds → Registers → List ℕ → List ℕ → Env
-view b r vs st = env b vs r.position r.colour r.mode r.window r.first r.second (r .counter .0) (firsts r.depth st) (stateOf r.state)
+view b r vs st = env b vs (penOf r) (flowOf r st) (stateOf r.state)
 
 abbrev pub held : Held.Env → Env
 held e = view e.bounds e.registers e.variables e.stack

@@ -19,7 +19,11 @@ corner x y = record { x0 = pos 0; y0 = pos 0; x1 = pos x; y1 = pos y }
 
 -- variables 0, position (0, 0), compared values 0 and 0, counter 0, stack empty, running
 abbrev pub blank : Bounds → ℕ → Window → Env
-blank b colour w = env b (replicate 64 0) origin colour 0 w 0 0 0 [] Running
+blank b colour w =
+    env b (replicate 64 0)
+    (record { position = origin; colour = colour; mode = 0; window = w })
+    (record { counter = 0; stack = []; first = 0; second = 0 })
+    Running
 
 -- colour 15, clip mode 0, clip window the whole screen
 abbrev pub fresh : Bounds → Env

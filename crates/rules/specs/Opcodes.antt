@@ -53,7 +53,7 @@ absolute bits n = wordOf (record { 0 = bits }) n
 
 -- the next opcode's index plus the signed offset
 abbrev pub relative : ℕ → Env → ℕ → Target
-relative offset e n = indexOf (pos e.counter +ℤ signed32 offset) n
+relative offset e n = indexOf (pos (e .flow .counter) +ℤ signed32 offset) n
 
 abbrev pub missing : Target → Bool
 missing (At t) = false
@@ -65,7 +65,7 @@ reach Refused e = e
 
 -- whether condition k holds of the values last compared
 abbrev pub taken : ℕ → Env → Bool
-taken k e = holds k (signed32 e.first) (signed32 e.second)
+taken k e = holds k (signed32 (e .flow .first)) (signed32 (e .flow .second))
 
 -- a jump not taken does not look at its target
 abbrev pub jumps : ℕ → Target → Env → Rule
@@ -76,7 +76,7 @@ jumps k t e =
 
 -- the return index is the next opcode's
 abbrev pub calls : Target → Env → Rule
-calls t e = refuse 27 (missing t) (refuse 28 (leb 16 (length e.stack)) (leaves (reach t (pushed e.counter e))))
+calls t e = refuse 27 (missing t) (refuse 28 (leb 16 (length (e .flow .stack))) (leaves (reach t (pushed (e .flow .counter) e))))
 
 -- ---- points
 abbrev pub point : ℕ → ℕ → Dot
@@ -98,7 +98,7 @@ dots p c e = refuse 25 (far p) (paints (dot p) c e)
 
 -- a line from p to q, only of type 0; `out`: a coordinate or offset is outside
 abbrev pub draws : ℕ → Bool → Dot → Dot → Env → Rule
-draws type out p q e = refuse 24 (ltb 0 type) (refuse 25 out (paints (line (record { from = p; to = q })) e.colour e))
+draws type out p q e = refuse 24 (ltb 0 type) (refuse 25 out (paints (line (record { from = p; to = q })) (e .pen .colour) e))
 
 -- ---- each op, in a list of n words
 abbrev pub rule : Op → Operands → ℕ → Env → Rule
@@ -118,7 +118,7 @@ rule Jump o n e = jumps o.a (absolute o.b n) e
 rule JumpBy o n e = jumps o.a (relative o.b e n) e
 rule Call o n e = calls (absolute o.a n) e
 rule CallBy o n e = calls (relative o.a e n) e
-rule Return o n e = refuse 29 (eqb (length e.stack) 0) (leaves (goto (top e) (popped e)))
+rule Return o n e = refuse 29 (eqb (length (e .flow .stack)) 0) (leaves (goto (top e) (popped e)))
 rule ClipMode o n e = refuse 24 (ltb 2 o.a) (leaves (clipped o.a e))
 rule ClipWindow o n e =
     let p = point o.a o.b in
@@ -128,17 +128,17 @@ rule Colour o n e = leaves (coloured (low8 o.a) e)
 rule MoveTo o n e = let p = point o.a o.b in refuse 25 (far p) (leaves (moved p e))
 rule MoveBy o n e =
     let d = point o.a o.b in
-    let p = shifted e.position d in
+    let p = shifted (e .pen .position) d in
     refuse 25 (far d || far p) (leaves (moved p e))
-rule Pixel o n e = dots (point o.a o.b) e.colour e
+rule Pixel o n e = dots (point o.a o.b) (e .pen .colour) e
 rule PixelColour o n e = dots (point o.a o.b) (low8 o.c) e
 rule Line o n e =
     let p = point o.b o.c in
     let q = point o.d o.e in
     draws o.a (far p || far q) p q e
-rule LineTo o n e = let q = point o.b o.c in draws o.a (far q) e.position q (moved q e)
+rule LineTo o n e = let q = point o.b o.c in draws o.a (far q) (e .pen .position) q (moved q e)
 rule LineBy o n e =
     let d = point o.b o.c in
-    let q = shifted e.position d in
-    draws o.a (far d || far q) e.position q (moved q e)
+    let q = shifted (e .pen .position) d in
+    draws o.a (far d || far q) (e .pen .position) q (moved q e)
 rule Clear o n e = paints all (low8 o.a) e

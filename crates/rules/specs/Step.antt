@@ -32,7 +32,7 @@ misnamed (Known op s) w pc = ltb 63 (highest (pieces s) w pc 1)
 
 abbrev pub ruled : Form → List ℕ → Env → Rule
 ruled Unknown w e = leaves e
-ruled (Known op s) w e = rule op (operands s w e.counter e.variables) (length w) (goto (e .counter + sizeOf s) e)
+ruled (Known op s) w e = rule op (operands s w (e .flow .counter) e.variables) (length w) (goto (e .flow .counter + sizeOf s) e)
 
 -- the end of the order: the lowest of 24 to 29 that a rule breaks, or what it says; what is painted goes by the environment before the opcode
 unfoldable pub carried : Rule → Env → Outcome Env
@@ -48,10 +48,10 @@ carried r e =
 -- 20 to 29, lowest first
 abbrev pub judged : Form → Rule → List ℕ → Env → Outcome Env
 judged f r w e =
-    check 20 (leb (length w) e.counter)
+    check 20 (leb (length w) (e .flow .counter))
     (check 21 (unknown f)
-    (check 22 (cut f w e.counter)
-    (check 23 (misnamed f w e.counter)
+    (check 22 (cut f w (e .flow .counter))
+    (check 23 (misnamed f w (e .flow .counter))
     (carried r e))))
 
 abbrev pub stepAt : Form → List ℕ → Env → Outcome Env
@@ -59,7 +59,7 @@ stepAt f w e = judged f (ruled f w e) w e
 
 -- the opcode at the counter
 unfoldable pub step : List ℕ → Env → Outcome Env
-step w e = stepAt (formOf (at w e.counter)) w e
+step w e = stepAt (formOf (at w (e .flow .counter))) w e
 
 -- a refused opcode leaves all but the state as it was
 abbrev pub afgis : List ℕ → Player Env

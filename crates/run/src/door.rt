@@ -10,7 +10,7 @@ ghost use mathlib.Core.Bool.{_&&_};
 ghost use mathlib.Core.List.{List};
 ghost use Prim.Native.Nat.{ℕ, _≤_};
 ghost use lib.ListN.{length};
-ghost use Rattle.rules.specs.Environment.{firsts, view};
+ghost use Rattle.rules.specs.Environment.{firsts, penOf, flowOf, view};
 ghost use Rattle.rules.specs.Door as Door;
 
 fn both(a: bool, b: bool) -> bool
@@ -88,19 +88,31 @@ fn stack_fits(stack: &[u32; 16], depth: u32) -> bool
     }
 }
 
+fn pen_fits(r: Registers) -> bool
+    ensures { λ f. ⌜ f ≡ Door.penFits (penOf r) ⌝ }
+{
+    let p = r.position;
+    let clip = both(r.mode <= 2, window_fits(r.window));
+    both(in_word(p.x), both(in_word(p.y), clip))
+}
+
+fn flow_fits(r: Registers, stack: &[u32; 16]) -> bool
+    requires { ⌜ length (now stack) ≡ 16 ⌝ }
+    ensures { λ f. ⌜ f ≡ Door.flowFits (flowOf r (now (stack .entry))) ⌝ }
+{
+    both(r.counter.0 <= 65536, stack_fits(stack, r.depth))
+}
+
 // Every range but the size's.
 fn fits(b: Bounds, r: Registers, stack: &[u32; 16]) -> bool
     requires { ⌜ length (now stack) ≡ 16 ⌝ }
     ensures { λ f. ⌜ ((vs : List ℕ) → f ≡ Door.fits (view b r vs (now (stack .entry)))) ⌝ }
 {
-    let p = r.position;
-    let w = r.window;
-    let flow = both(
-        r.counter.0 <= 65536,
-        both(stack_fits(stack, r.depth), state_fits(state_of(r.state))),
-    );
-    let clip = both(r.mode <= 2, both(window_fits(w), flow));
-    both(pane_fits(b), both(in_word(p.x), both(in_word(p.y), clip)))
+    let state = state_fits(state_of(r.state));
+    both(
+        pane_fits(b),
+        both(pen_fits(r), both(flow_fits(r, stack), state)),
+    )
 }
 
 // Of a list of `words` words and a screen of `bytes` bytes: the number of the refusal, or 0.

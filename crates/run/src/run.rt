@@ -9,12 +9,12 @@ use rules::answer::Answer;
 use rules::environment::Env;
 use rules::environment::state_of;
 ghost use mathlib.Core.Path.{_≡_};
+ghost use Rattle.player.specs.Shown.{numberOf};
 ghost use Rattle.rules.specs.Door.{Promise};
-ghost use Rattle.run.specs.Turns as Turns;
 
 // What the state that is left answers; of one that still runs, that the budget is used up.
 fn number_of(s: State) -> u8
-    ensures { λ n. ⌜ n ≡ Turns.numberOf s ⌝ }
+    ensures { λ n. ⌜ n ≡ numberOf s ⌝ }
 {
     match s {
         State::Running => 1,

@@ -1,10 +1,13 @@
 // One opcode after the other: the state comes first, then the budget, then the opcode.
-use crate::step::step;
 use act::registers::Cells;
 use act::registers::Points;
+use act::registers::frame;
 use act::registers::set_state;
 use act::registers::state;
+use raster::brush::Brush;
+use raster::brush::paint;
 use raster::frame::Bounds;
+use step::step::step;
 ghost use mathlib.Core.Path.{_≡_};
 ghost use Rattle.player.specs.Run.{runs};
 ghost use Rattle.rules.specs.Step.{afgis};
@@ -33,10 +36,14 @@ pub fn turns(
         if state(&*cells) != 0 {
             return steps;
         }
-        let refusal = step(words, b, cells, points, vars, stack, screen);
-        if refusal != 0 {
-            set_state(cells, refusal);
+        let mut brush: Brush = [0; 6];
+        let q = step(words, cells, points, vars, stack, &mut brush);
+        if 1 < q {
+            set_state(cells, q);
             return steps;
+        }
+        if q == 1 {
+            paint(screen, frame(b, &*cells, &*points), &brush);
         }
         steps += 1;
     }

@@ -16,4 +16,4 @@ end-spec =
     let g = c .go-to .ensures in
     let r = then (ended (c .before .before .set-state .ensures)) (g .1) in
     got-turns _ (c .before .before .before .before .before .t2 .given .1)
-    (record { cells = r .full; tells = λ b ps vs st s. turns _ _ _ s refl refl (settled (g .0) (r .shows b ps vs st)) })))
+    (record { cells = r .full; tells = λ b ps vs st s. turns _ _ _ s refl refl (settled s (g .0) (r .shows b ps vs st)) })))

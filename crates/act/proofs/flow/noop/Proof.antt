@@ -14,4 +14,4 @@ noop-spec =
     (λ c n.
     let g = c .go-to .ensures in
     got-turns _ (c .before .before .before .t2 .given .1)
-    (record { cells = g .1 .full; tells = λ b ps vs st s. turns _ _ _ s refl refl (settled (g .0) (g .1 .shows b ps vs st)) })))
+    (record { cells = g .1 .full; tells = λ b ps vs st s. turns _ _ _ s refl refl (settled s (g .0) (g .1 .shows b ps vs st)) })))

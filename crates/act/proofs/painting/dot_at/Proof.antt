@@ -1,6 +1,5 @@
 -- `dot_at`: a point outside is 25.
 use mathlib.Core.Path.{refl}
-use denote.Ref.{now}
 use borrow.Author.Needs.{needs}
 use Rattle.act.proofs.Acting.{stays, drawn}
 use Rattle.act.proofs.PointLaws.{near, told-outside, told-at}
@@ -14,22 +13,22 @@ dot-at-spec =
     (λ c.
     let at = c .before .before in
     let out = told-outside _ _ (at .point-of .ensures) (c .enum-told .given .1) in
-    record { cells = at .before .before .pre .cells; tells = λ vs st. stays _ _ _ _ {n = 25} (rw out) refl })
-    (λ c κs. search needs)
+    let pre = at .before .pre in
+    record { cells = pre .0; brush = pre .1; tells = λ b ps vs st. stays _ _ _ _ {n = 25} (rw out) refl })
     (λ c κs.
-    let w = c .before .before .before .before in
+    let w = c .before .before in
     let at = w .before .before in
     let p = told-at _ _ (at .point-of .ensures) (w .p .given .1) in
-    (rw (c .frame .ensures) (at .before .before .pre .fitting), rw (p .1) (near _ (p .0))))
-    (λ c κs. search needs) (λ c. search needs)
+    (at .before .pre .1 .0, rw (p .1) (near _ (p .0))))
+    (λ c κs. search needs)
     (λ c.
-    let d = c .before .before .before .before in
-    let w = d .before .before .before .before .before in
+    let m = c .before .before in
+    let w = m .before .before .before in
     let p = told-at _ _ (w .before .before .point-of .ensures) (w .p .given .1) in
-    let g = c .go-to .ensures in
+    let g = c .go-painting .ensures in
+    let h = m .hold-dot .ensures in
     record {
       cells = g .1 .full;
-      tells = λ vs st.
-          drawn _ _ _ _ (rw (p .0)) (g .0) (g .1 .shows _ (now (w .before .before .before .before .args .points)) vs st)
-          (rw (d .before .frame .ensures, p .1) at (d .plot .ensures));
+      brush = (h .full, h .near);
+      tells = λ b ps vs st. drawn _ _ _ _ (rw (p .0)) (g .0) (g .1 .shows b ps vs st) refl (rw (p .1) at h);
     }))

@@ -1,10 +1,10 @@
--- `draw_to`: the line is painted from the position before the position moves.
+-- `draw_to`: the line is held from the position before the position moves.
 use mathlib.Core.Path.{refl}
-use mathlib.Core.List.{[]}
 use borrow.Author.Needs.{needs}
 use Rattle.rules.specs.Environment.{moved}
 use Rattle.act.proofs.Acting.{drawn}
 use Rattle.act.proofs.Handing.{repointed}
+use Rattle.act.proofs.PointLaws.{near-as}
 use Rattle.act.proofs.painting.draw_to.Statement.{statement}
 use Rattle.act.proofs.painting.draw_to.Tie as tie
 
@@ -12,19 +12,25 @@ pub draw-to-spec : {M : Type 1} → statement M
 draw-to-spec =
     tie.close (tie.spec
     (λ c κs. search needs)
+    (λ c κs. search needs)
     (λ c κs.
     let here = c .before .before .before in
-    let pre = here .before .before .before .pre in
-    (pre .0, (rw (here .position .ensures []) (pre .0 .here), pre .1)))
-    (λ c κs. search needs) (λ c κs. search needs) (λ c. search needs)
+    let pre = here .before .before .pre in
+    let from = near-as (here .position .ensures) (pre .0 .here) in
+    (pre .0 .brush .0, (from .0, from .1, pre .1 .0, pre .1 .1)))
+    (λ c κs. search needs) (λ c κs. search needs)
     (λ c.
     let m = c .before .before in
-    let d = m .before .before .before .before in
-    let here = d .before .before .before .before in
-    let g = c .go-to .ensures in
+    let d = m .before .before in
+    let k = d .before in
+    let here = k .before .before .before in
+    let g = c .go-painting .ensures in
+    let h = d .hold-line .ensures in
     record {
       cells = g .1 .full;
       points = m .set-position .ensures .full;
-      tells = λ vs st.
-          drawn _ _ _ _ refl (g .0) (repointed moved refl (m .set-position .ensures) (g .1) _ vs st) (rw (here .position .ensures []) at (d .stroke .ensures));
+      brush = (h .full, h .near);
+      tells = λ b vs st.
+          drawn _ _ _ _ refl (g .0) (repointed moved refl (m .set-position .ensures) (g .1) b vs st) refl
+          (rw (here .position .ensures, k .colour .ensures) at h);
     }))

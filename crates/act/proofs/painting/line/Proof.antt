@@ -1,11 +1,10 @@
 -- `line`: a type other than 0 is 24, an end outside 25.
 use mathlib.Core.Path.{refl}
-use denote.Ref.{now}
 use borrow.Author.Needs.{needs}
 use borrow.Author.Tests.{lt-ltb, le-ltb}
 use Rattle.act.proofs.Acting.{stays, drawn}
 use Rattle.act.proofs.Handing.{passed-paints, got-paints}
-use Rattle.act.proofs.PointLaws.{near, told-outside, told-at}
+use Rattle.act.proofs.PointLaws.{near, near-as, told-outside, told-at}
 use Rattle.act.proofs.painting.line.Statement.{statement}
 use Rattle.act.proofs.painting.line.Tie as tie
 
@@ -15,47 +14,55 @@ line-spec =
     (λ c. search needs) (λ c. search needs)
     (λ c n.
     let t = c .before .before .before in
+    let pre = t .before .before .pre in
     got-paints _ (t .t2 .given .1)
-    (record { cells = t .before .before .before .pre .cells; tells = λ vs st. stays _ _ _ _ {n = 24} (rw (lt-ltb _ _ (c .if1 .taken))) refl }))
+    (record { cells = pre .0; brush = pre .1; tells = λ b ps vs st. stays _ _ _ _ {n = 24} (rw (lt-ltb _ _ (c .if1 .taken))) refl }))
     (λ c κs. search needs) (λ c. search needs) (λ c. search needs)
     (λ c n.
     let first = c .before .before in
     let t = first .before .before .before .before in
+    let pre = t .before .before .pre in
     let out = told-outside _ _ (first .point-of .ensures) (c .enum-told .given .1) in
     got-paints _ (t .t2 .given .1)
-    (record { cells = t .before .before .before .pre .cells; tells = λ vs st. stays _ _ _ _ {n = 25} (rw (le-ltb _ _ (first .before .if1 .left), out)) refl }))
+    (record { cells = pre .0; brush = pre .1; tells = λ b ps vs st. stays _ _ _ _ {n = 25} (rw (le-ltb _ _ (first .before .if1 .left), out)) refl }))
     (λ c κs. search needs) (λ c. search needs) (λ c. search needs)
     (λ c n.
     let second = c .before .before in
     let first = second .before .before .before .before in
     let t = first .before .before .before .before in
+    let pre = t .before .before .pre in
     let p = told-at _ _ (first .point-of .ensures) (second .before .before .p .given .1) in
     let out = told-outside _ _ (second .point-of2 .ensures) (c .enum-told2 .given .1) in
     got-paints _ (t .t2 .given .1)
-    (record { cells = t .before .before .before .pre .cells; tells = λ vs st. stays _ _ _ _ {n = 25} (rw (le-ltb _ _ (first .before .if1 .left), p .0, out)) refl }))
-    (λ c κs.
-    let w = c .before .before .before in
-    let second = w .before .before in
-    let first = second .before .before .before .before in
-    let p = told-at _ _ (first .point-of .ensures) (second .before .before .p .given .1) in
-    let q = told-at _ _ (second .point-of2 .ensures) (w .q .given .1) in
-    (first .before .before .before .before .before .before .before .pre, (rw (p .1) (near _ (p .0)), rw (q .1) (near _ (q .0)))))
+    (record { cells = pre .0; brush = pre .1; tells = λ b ps vs st. stays _ _ _ _ {n = 25} (rw (le-ltb _ _ (first .before .if1 .left), p .0, out)) refl }))
     (λ c κs. search needs)
-    (λ c n. passed-paints _ (c .before .t .given .1) (c .before .before .before .before .pre .cells))
-    (λ c. search needs)
-    (λ c n.
-    let d = c .before .before .before .before in
-    let w = d .before .before .before .before in
+    (λ c κs.
+    let w = c .before .before .before .before in
     let second = w .before .before in
     let first = second .before .before .before .before in
     let p = told-at _ _ (first .point-of .ensures) (second .before .before .p .given .1) in
     let q = told-at _ _ (second .point-of2 .ensures) (w .q .given .1) in
-    let g = c .go-to .ensures in
+    let np = near-as (p .1) (near _ (p .0)) in
+    let nq = near-as (q .1) (near _ (q .0)) in
+    (first .before .before .before .before .before .before .pre .1 .0, (np .0, np .1, nq .0, nq .1)))
+    (λ c κs. search needs)
+    (λ c n. let pre = c .before .before .before .pre in passed-paints _ (c .before .t .given .1) (pre .0) (pre .1))
+    (λ c n.
+    let m = c .before .before in
+    let k = m .before in
+    let w = k .before .before .before .before in
+    let second = w .before .before in
+    let first = second .before .before .before .before in
     let t = first .before .before .before .before in
+    let p = told-at _ _ (first .point-of .ensures) (second .before .before .p .given .1) in
+    let q = told-at _ _ (second .point-of2 .ensures) (w .q .given .1) in
+    let g = c .go-painting .ensures in
+    let h = m .hold-line .ensures in
     got-paints _ (t .t2 .given .1)
     (record {
       cells = g .1 .full;
-      tells = λ vs st.
-          drawn _ _ _ _ (rw (le-ltb _ _ (first .before .if1 .left), p .0, q .0)) (g .0)
-          (g .1 .shows _ (now (t .before .before .before .args .points)) vs st) (rw (p .1, q .1) at (d .stroke .ensures));
+      brush = (h .full, h .near);
+      tells = λ b ps vs st.
+          drawn _ _ _ _ (rw (le-ltb _ _ (first .before .if1 .left), p .0, q .0)) (g .0) (g .1 .shows b ps vs st) refl
+          (rw (p .1, q .1, k .colour .ensures) at h);
     })))

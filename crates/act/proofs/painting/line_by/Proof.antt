@@ -1,6 +1,5 @@
 -- `line_by`: a type other than 0 is 24, an offset or the end outside 25.
 use mathlib.Core.Path.{refl}
-use mathlib.Core.List.{[]}
 use borrow.Author.Needs.{needs}
 use borrow.Author.Tests.{lt-ltb, le-ltb}
 use Rattle.rules.specs.Opcodes.{point, far}
@@ -17,33 +16,36 @@ line-by-spec =
     (λ c. search needs) (λ c. search needs)
     (λ c n.
     let t = c .before .before .before in
-    let pre = t .before .before .before .pre in
+    let pre = t .before .before .pre in
     got-draws _ (t .t2 .given .1)
-    (record { cells = pre .cells; points = pre .points; tells = λ vs st. stays _ _ _ _ {n = 24} (rw (lt-ltb _ _ (c .if1 .taken))) refl }))
+    (record { cells = pre .cells; points = pre .points; brush = pre .brush; tells = λ b vs st. stays _ _ _ _ {n = 24} (rw (lt-ltb _ _ (c .if1 .taken))) refl }))
     (λ c κs. search needs) (λ c κs. search needs) (λ c. search needs) (λ c. search needs)
     (λ c n.
     let at = c .before .before in
     let here = at .before in
     let t = here .before .before .before .before .before in
-    let pre = t .before .before .before .pre in
-    let out = told-outside _ _ (from _ (here .position .ensures []) (at .point-by .ensures)) (c .enum-told .given .1) in
+    let pre = t .before .before .pre in
+    let out = told-outside _ _ (from _ (here .position .ensures) (at .point-by .ensures)) (c .enum-told .given .1) in
     got-draws _ (t .t2 .given .1)
-    (record { cells = pre .cells; points = pre .points; tells = λ vs st. stays _ _ _ _ {n = 25} (rw (le-ltb _ _ (here .before .before .if1 .left), out)) refl }))
+    (record { cells = pre .cells; points = pre .points; brush = pre .brush; tells = λ b vs st. stays _ _ _ _ {n = 25} (rw (le-ltb _ _ (here .before .before .if1 .left), out)) refl }))
     (λ c κs.
     let w = c .before .before .before .before in
     let at = w .before .before in
     let t = at .before .before .before .before .before .before in
     let q = told-at _ _ (at .point-by .ensures) (w .q .given .1) in
     let o = t .t2 .given .0 .0 in
-    (t .before .before .before .pre, rw (q .1) (near _ (neither (far (point (o .b) (o .c))) _ (q .0) .1))))
-    (λ c n. let pre = c .before .before .before .before .pre in passed-draws _ (c .before .t .given .1) (pre .cells) (pre .points))
-    (λ c. search needs)
+    (t .before .before .pre, rw (q .1) (near _ (neither (far (point (o .b) (o .c))) _ (q .0) .1))))
+    (λ c n. let pre = c .before .before .before .pre in passed-draws _ (c .before .t .given .1) (pre .cells) (pre .points) (pre .brush))
     (λ c n.
-    let to = c .before .before in
-    let w = to .before .before .before .before .before in
+    let w = c .before .before .before .before .before in
     let at = w .before .before in
     let here = at .before in
-    let q = told-at _ _ (from _ (here .position .ensures []) (at .point-by .ensures)) (w .q .given .1) in
-    let d = to .draw-to .ensures in
+    let q = told-at _ _ (from _ (here .position .ensures) (at .point-by .ensures)) (w .q .given .1) in
+    let d = c .draw-to .ensures in
     got-draws _ (here .before .before .before .before .before .t2 .given .1)
-    (record { cells = d .cells; points = d .points; tells = λ vs st. past _ _ _ _ _ (rw (le-ltb _ _ (here .before .before .if1 .left), q .0)) (rw (q .1)) (d .tells vs st) })))
+    (record {
+      cells = d .cells;
+      points = d .points;
+      brush = d .brush;
+      tells = λ b vs st. past _ _ _ _ _ (rw (le-ltb _ _ (here .before .before .if1 .left), q .0)) (rw (q .1)) (d .tells b vs st);
+    })))

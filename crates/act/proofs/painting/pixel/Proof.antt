@@ -10,10 +10,8 @@ pub pixel-spec : {M : Type 1} → statement M
 pixel-spec =
     tie.close (tie.spec
     (λ c. search needs) (λ c. search needs) (λ c κs. search needs) (λ c κs. search needs)
-    (λ c n. passed-paints _ (c .before .t .given .1) (c .before .before .before .before .pre .cells))
-    (λ c. search needs)
+    (λ c n. let pre = c .before .before .before .pre in passed-paints _ (c .before .t .given .1) (pre .0) (pre .1))
     (λ c n.
-    let d = c .before .before in
-    let k = d .before .before .before in
+    let k = c .before .before .before in
     let t = k .before .before .before .t2 .given in
-    got-paints _ (t .1) (foreground (point (t .0 .0 .a) (t .0 .0 .b)) _ (k .colour .ensures) (d .dot-at .ensures))))
+    got-paints _ (t .1) (foreground (point (t .0 .0 .a) (t .0 .0 .b)) _ (k .colour .ensures) (c .dot-at .ensures))))

@@ -24,5 +24,5 @@ clip-mode-spec =
     got-turns _ (low .before .before .before .t2 .given .1)
     (record {
       cells = g .full;
-      tells = λ b ps vs st s. turns _ _ _ s (rw (le-ltb _ _ (low .if1 .left))) refl (settled (c .go-to .ensures .0) (g .shows b ps vs st));
+      tells = λ b ps vs st s. turns _ _ _ s (rw (le-ltb _ _ (low .if1 .left))) refl (settled s (c .go-to .ensures .0) (g .shows b ps vs st));
     })))

@@ -44,5 +44,5 @@ clip-window-spec =
       points = m .set-window .ensures .full;
       tells = λ b vs st s.
           turns _ _ _ s (rw (p .0, q .0)) refl
-          (settled (g .0) (repointed windowed (w .window .ensures ∙ rw (p .1, q .1)) (m .set-window .ensures) (g .1) b vs st));
+          (settled s (g .0) (repointed windowed (w .window .ensures ∙ rw (p .1, q .1)) (m .set-window .ensures) (g .1) b vs st));
     })))

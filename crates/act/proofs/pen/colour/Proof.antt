@@ -14,4 +14,4 @@ colour-spec =
     (λ c n.
     let g = then (c .before .before .set-colour .ensures) (c .go-to .ensures .1) in
     got-turns _ (c .before .before .before .before .before .before .t2 .given .1)
-    (record { cells = g .full; tells = λ b ps vs st s. turns _ _ _ s refl refl (settled (c .go-to .ensures .0) (g .shows b ps vs st)) })))
+    (record { cells = g .full; tells = λ b ps vs st s. turns _ _ _ s refl refl (settled s (c .go-to .ensures .0) (g .shows b ps vs st)) })))

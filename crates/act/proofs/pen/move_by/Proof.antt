@@ -1,6 +1,5 @@
 -- `move_by`: an offset or a sum outside is 25.
 use mathlib.Core.Path.{refl}
-use mathlib.Core.List.{[]}
 use borrow.Author.Needs.{needs}
 use Rattle.rules.specs.Environment.{moved}
 use Rattle.act.proofs.Acting.{stays, turns}
@@ -17,7 +16,7 @@ move-by-spec =
     let at = c .before .before in
     let t = at .before .before .before .before in
     let pre = t .before .before .pre in
-    let out = told-outside _ _ (from _ (at .before .position .ensures []) (at .point-by .ensures)) (c .enum-told .given .1) in
+    let out = told-outside _ _ (from _ (at .before .position .ensures) (at .point-by .ensures)) (c .enum-told .given .1) in
     got-moves _ (t .t2 .given .1) (record { cells = pre .0; points = pre .1; tells = λ b vs st s. stays _ _ _ s {n = 25} (rw out) refl }))
     (λ c κs. search needs) (λ c κs. search needs)
     (λ c n. let pre = c .before .before .before .pre in passed-moves _ (c .before .t .given .1) (pre .0) (pre .1))
@@ -25,11 +24,11 @@ move-by-spec =
     let m = c .before .before in
     let w = m .before .before .before in
     let at = w .before .before in
-    let p = told-at _ _ (from _ (at .before .position .ensures []) (at .point-by .ensures)) (w .p .given .1) in
+    let p = told-at _ _ (from _ (at .before .position .ensures) (at .point-by .ensures)) (w .p .given .1) in
     let g = c .go-to .ensures in
     got-moves _ (at .before .before .before .before .t2 .given .1)
     (record {
       cells = g .1 .full;
       points = m .set-position .ensures .full;
-      tells = λ b vs st s. turns _ _ _ s (rw (p .0)) refl (settled (g .0) (repointed moved (p .1) (m .set-position .ensures) (g .1) b vs st));
+      tells = λ b vs st s. turns _ _ _ s (rw (p .0)) refl (settled s (g .0) (repointed moved (p .1) (m .set-position .ensures) (g .1) b vs st));
     })))

@@ -30,5 +30,5 @@ move-to-spec =
     (record {
       cells = g .1 .full;
       points = m .set-position .ensures .full;
-      tells = λ b vs st s. turns _ _ _ s (rw (p .0)) refl (settled (g .0) (repointed moved (p .1) (m .set-position .ensures) (g .1) b vs st));
+      tells = λ b vs st s. turns _ _ _ s (rw (p .0)) refl (settled s (g .0) (repointed moved (p .1) (m .set-position .ensures) (g .1) b vs st));
     })))

@@ -1,8 +1,23 @@
 -- `gathered`: each register is the one of its place.
-use mathlib.Core.List.{[]}
 use borrow.Author.Needs.{needs}
 use Rattle.act.proofs.registers.gathered.Statement.{statement}
 use Rattle.act.proofs.registers.gathered.Tie as tie
+
+returns : tie.Need-returns
+returns c =
+    let counter = c .before .before .before in
+    let mode = counter .before .before .before in
+    rw (
+      mode .before .before .position .ensures,
+      mode .before .window .ensures,
+      mode .mode .ensures,
+      counter .before .before .first .ensures,
+      counter .before .second .ensures,
+      counter .counter .ensures,
+      c .before .before .depth .ensures,
+      c .before .colour .ensures,
+      c .state .ensures,
+    )
 
 pub gathered-spec : {M : Type 1} → statement M
 gathered-spec =
@@ -10,16 +25,4 @@ gathered-spec =
     (tie.spec
     (λ c κs. search needs) (λ c κs. search needs) (λ c κs. search needs) (λ c κs. search needs) (λ c κs. search needs)
     (λ c κs. search needs) (λ c κs. search needs) (λ c κs. search needs) (λ c κs. search needs)
-    (λ c i.
-    let m = c .before .before .before .before .before .before in
-    record {
-      position = m .before .before .position .ensures [] i;
-      window = m .before .window .ensures [] i;
-      mode = m .mode .ensures i;
-      first = c .before .before .before .before .before .first .ensures i;
-      second = c .before .before .before .before .second .ensures i;
-      counter = record { 0 = c .before .before .before .counter .ensures i };
-      depth = c .before .before .depth .ensures i;
-      colour = c .before .colour .ensures i;
-      state = c .state .ensures i;
-    }))
+    returns)

@@ -23,4 +23,4 @@ compare-spec =
     let r = then (c .before .before .keep-compared .ensures) (c .go-to .ensures .1) in
     got-sets _ (t .t2 .given .1)
     (of-old o _ (a .old .ensures) (λ x e. leaves (compared x (o .a) e))
-    (record { cells = r .full; tells = λ b ps st s. turns _ _ _ s refl refl (settled (c .go-to .ensures .0) (r .shows b ps _ st)) }))))
+    (record { cells = r .full; tells = λ b ps st s. turns _ _ _ s refl refl (settled s (c .go-to .ensures .0) (r .shows b ps _ st)) }))))

@@ -12,4 +12,4 @@ put-spec =
     (λ c. search needs) (λ c. search needs) (λ c. search needs) (λ c κs. search needs)
     (λ c.
     let g = c .go-to .ensures in
-    record { cells = g .1 .full; tells = λ b ps st s. turns _ _ _ s refl refl (settled (g .0) (g .1 .shows b ps _ st)) }))
+    record { cells = g .1 .full; tells = λ b ps st s. turns _ _ _ s refl refl (settled s (g .0) (g .1 .shows b ps _ st)) }))

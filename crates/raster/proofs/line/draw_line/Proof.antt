@@ -1,5 +1,5 @@
 -- `raster::line::draw_line` meets its contract: the course's dots within the rectangle are the line's drawable dots.
-use mathlib.Core.Path.{_≡_, ap, ap₂, _∙_, subst, subst⁻¹}
+use mathlib.Core.Path.{_≡_, sym, ap, ap₂, _∙_, subst, subst⁻¹}
 use mathlib.Core.Bool.{_&&_}
 use Prim.Native.Nat.{ℕ, suc, _+_, _-_, _<_, _≤_}
 use native.Mathlib.Omega.{arith}
@@ -7,9 +7,10 @@ use borrow.Author.Needs.{needs}
 use Rattle.raster.specs.declared.course.Course.{Course}
 use Rattle.raster.specs.declared.rect.Rect.{Rect}
 use Rattle.raster.specs.Line.{line}
-use Rattle.raster.specs.Moved.{spotOf}
+use Rattle.raster.specs.Moved.{spotOf, dotOf, lineOf}
 use Rattle.raster.specs.Rects.{pixels, inRect, Room}
 use Rattle.raster.specs.Courses.{courseOf, lineSpot, lineB, Fair}
+use Rattle.raster.proofs.Coordinates.{spot-back}
 use Rattle.raster.proofs.Rectangles.{room}
 use Rattle.raster.proofs.Pixels.{seen}
 use Rattle.raster.proofs.Courses.{fair, line-is}
@@ -26,13 +27,13 @@ module _ (c : tie.After-rect-of) where
   O = c .before
 
   abbrev S : tie.Start
-  S = O .before .before .before .before
+  S = O .before .before
 
-  course : O .course-of .result ≡ courseOf (spotOf (S .args .l .from)) (spotOf (S .args .l .to))
-  course = O .course-of .ensures ∙ ap₂ courseOf (O .before .before .spot-of .ensures) (O .before .spot-of2 .ensures)
+  course : O .course-of .result ≡ courseOf (spotOf (dotOf (S .args .p))) (spotOf (dotOf (S .args .q)))
+  course = O .course-of .ensures ∙ sym (ap₂ courseOf (spot-back (S .args .p)) (spot-back (S .args .q)))
 
   is-fair : Fair (O .course-of .result)
-  is-fair = let h = S .pre .1 in subst⁻¹ Fair course (fair (S .args .l .from) (S .args .l .to) (h .0, h .1) (h .2, h .3))
+  is-fair = let h = S .pre .1 in subst⁻¹ Fair course (fair (dotOf (S .args .p)) (dotOf (S .args .q)) (h .0) (h .1))
 
   has-room : Room (S .args .f .bounds .width) (c .rect-of .result) (S .args .screen .now)
   has-room =
@@ -41,7 +42,7 @@ module _ (c : tie.After-rect-of) where
 -- the dots within the rectangle are the line's drawable dots
 all-painted : (c : tie.After-dots-within) → let g = S (c .before) .args in
     stretched (g .f .bounds .width) (O (c .before) .course-of .result) (c .dots-within .result .from) (c .dots-within .result .past) (g .c) (g .screen .now)
-    ≡ paint (g .f) (line (g .l)) (g .c) (g .screen .now)
+    ≡ paint (g .f) (line (lineOf (g .p) (g .q))) (g .c) (g .screen .now)
 all-painted c =
     let r = c .before in
     let s = S r in
@@ -51,24 +52,18 @@ all-painted c =
     let l = O r .course-of .result in
     (λ u. pixels w (λ i j. line-within (r .rect-of .result) l (c .dots-within .result .from) (c .dots-within .result .past) (c .dots-within .ensures) i j u) (g .c) (g .screen .now))
     ∙ ap₂ (λ (b : Rect) (o : Course). pixels w (λ i j. inRect b i j && lineB o i j) (g .c) (g .screen .now)) (r .rect-of .ensures) (course r)
-    ∙ painted (g .f) (g .screen .now) (s .pre .0) (line (g .l)) (lineB (courseOf (spotOf (g .l .from)) (spotOf (g .l .to)))) (g .c)
-    (line-is (g .l) (h .0, h .1) (h .2, h .3))
+    ∙ painted (g .f) (g .screen .now) (s .pre .0) (line (lineOf (g .p) (g .q))) (lineB (courseOf (spotOf (dotOf (g .p))) (spotOf (dotOf (g .q))))) (g .c)
+    (line-is (lineOf (g .p) (g .q)) (h .0) (h .1))
 
 -- ---- numbers
 to-last : (a b n : ℕ) → a < b → b ≤ n + 1 → (a ≤ b - 1) × (b - 1 ≤ n) × (a ≤ n) × (suc (b - 1) ≡ b)
 to-last a b n h g = omega arith
 
-spot-of-requires : tie.Need-spot-of-requires
-spot-of-requires c κs = search needs
-
-spot-of-requires-2 : tie.Need-spot-of-requires-2
-spot-of-requires-2 c κs = search needs
-
 course-of-requires : tie.Need-course-of-requires
 course-of-requires c κs = search needs
 
 rect-of-requires : tie.Need-rect-of-requires
-rect-of-requires c κs = c .before .before .before .before .pre .0 .sane
+rect-of-requires c κs = c .before .before .pre .0 .sane
 
 dots-within-requires : tie.Need-dots-within-requires
 dots-within-requires c κs =
@@ -137,8 +132,6 @@ pub draw-line-spec : {M : Type 1} → statement M
 draw-line-spec =
     tie.close
     (tie.spec
-    spot-of-requires
-    spot-of-requires-2
     course-of-requires
     rect-of-requires
     dots-within-requires

@@ -17,11 +17,11 @@ last c =
 sub-at : tie.Need-sub-at
 sub-at c = search needs
 
+cast-at : tie.Need-cast-at
+cast-at c = search needs
+
 mul-at : tie.Need-mul-at
 mul-at c = omega (arith, last c .0 .rows)
-
-cast-at : tie.Need-cast-at
-cast-at c = omega (arith, last c .0 .rows)
 
 sub-set-bytes : tie.Need-sub-set-bytes
 sub-set-bytes c = search needs
@@ -65,8 +65,8 @@ row-part-spec =
     tie.close
     (tie.spec
     sub-at
-    mul-at
     cast-at
+    mul-at
     sub-set-bytes
     cast-set-bytes
     add-set-bytes

@@ -3,20 +3,21 @@ use mathlib.Core.Path.{_≡_, refl, ap, _∙_}
 use borrow.Author.Needs.{needs}
 use lib.ListN.{length}
 use Rattle.player.specs.Run.{runs}
+use Rattle.player.specs.Shown.{numberOf}
+use Rattle.player.proofs.Doors.{refused-whole, run-whole}
 use Rattle.rules.specs.Environment.{Env, held}
-use Rattle.rules.specs.Door.{fits}
+use Rattle.rules.specs.Door.{fits, machine}
 use Rattle.rules.specs.Step.{afgis}
 use Rattle.act.specs.Held.{look}
-use Rattle.run.specs.Turns.{numberOf}
-use Rattle.run.proofs.Doors.{refused-whole, run-whole, let-in}
-use Rattle.run.proofs.Lending.{full-cells, full-points, lent, answers}
+use Rattle.run.proofs.Doors.{let-in}
+use Rattle.run.proofs.Lending.{full-points, lent, answers}
 use Rattle.run.proofs.run.run.Statement.{statement}
 use Rattle.run.proofs.run.run.Tie as tie
 
 returns : tie.Need-returns
 returns c =
     let a = c .before .before .before .before .before .before .before .before .before .args in
-    refused-whole (a .list .now) (a .screen .now) (held (a .env)) (a .budget) _ (c .before .door .ensures _ _ refl) (c .if1 .taken)
+    refused-whole machine (record { list = a .list .now; budget = a .budget }) (held (a .env)) (a .screen .now) _ (c .before .door .ensures _ _ refl) (c .if1 .taken)
 
 full : (c : tie.After-stack2) → length (c .before .before .before .before .before .before .before .args .env .stack) ≡ 16
 full c = search needs
@@ -37,7 +38,7 @@ turns-requires c κs =
     let ps = c .before .before .before .before .before .points-of .ensures in
     record {
       few = o .few;
-      cells = full-cells _ cs ps;
+      cells = cs .full;
       points = full-points _ cs ps;
       size = o .size;
       ranges = ap fits (same c) ∙ o .ranges;
@@ -55,7 +56,7 @@ returns-2 c =
     answers _ _ (z .0) (z .1 .0) _ _ _ _ _ (c .before .before .gathered .ensures) (c .number-of .ensures ∙ ap numberOf (c .before .state-of .ensures))
     (t .turns .ensures
     ∙ (ap (λ (x : Env). runs (afgis (a .list .now)) (a .budget) x (a .screen .now) 0) (same (t .before))
-    ∙ run-whole (a .list .now) (a .screen .now) (held (a .env)) (a .budget) _ (d .door .ensures _ _ refl) (f .if1 .left)))
+    ∙ run-whole machine (record { list = a .list .now; budget = a .budget }) (held (a .env)) (a .screen .now) _ (d .door .ensures _ _ refl) (f .if1 .left)))
 
 pub run-spec : {M : Type 1} → statement M
 run-spec =

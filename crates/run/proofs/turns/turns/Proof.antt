@@ -1,6 +1,7 @@
 -- `turns`: the run from the start is the run from here, with what is left of the budget.
 use Prim.Native.Nat.{ℕ, _-_, _≤_}
 use mathlib.Core.Path.{_≡_, refl, sym, _∙_}
+use mathlib.Core.Logic.{⊎-elim}
 use mathlib.Core.List.{List}
 use native.Mathlib.Nat.{sub-zero}
 use native.Mathlib.Omega.{arith}
@@ -9,11 +10,13 @@ use lib.ListN.{length}
 use lib.IntN.{ℤ}
 use Rattle.raster.specs.declared.frame.Bounds.{Bounds}
 use Rattle.player.specs.Run.{runs}
+use Rattle.player.specs.Shown.{marks, brushed}
+use Rattle.player.proofs.Turning.{painting, not-carried-out, Turned, turned-long, turned-painting, turned-quiet, rest, go-on, stop, used-up}
+use Rattle.rules.specs.Environment.{frame}
 use Rattle.rules.specs.Step.{afgis}
 use Rattle.act.specs.Held.{look}
 use Rattle.run.specs.Turns.{Ready}
-use Rattle.run.proofs.Turning.{rest, go-on, stop, used-up}
-use Rattle.run.proofs.Stepping.{running, not-running, leaves-fits, told-refusal, carried-out, not-carried-out, stopped-left}
+use Rattle.run.proofs.Stepping.{running, not-running, leaves-fits, told-refusal, may-draw, stopped-left}
 use Rattle.run.proofs.turns.turns.Statement.{statement}
 use Rattle.run.proofs.turns.turns.Tie as tie
 
@@ -39,49 +42,98 @@ returns c =
     let i = t .before .loop in
     rest _ _ (i .steps) _ (i .screen) _ (i .inv .same) (t .loop-test .taken) (not-running _ (λ z. c .if1 .taken (c .before .state .ensures ∙ z)))
 
+step-requires : tie.Need-step-requires Inv-loop μ-loop
+step-requires c κs =
+    let i = c .before .before .before .before .before .before .before .before .before in
+    let r = i .loop .inv .ready in
+    record {
+      few = r .few;
+      cells = r .cells;
+      points = r .points;
+      bounds = i .before .before .before .args .b;
+      ranges = r .ranges;
+      full = r .full;
+      brush = (refl, λ z. absurd (omega (arith, z)));
+    }
+
 returns-2 : tie.Need-returns-2 Inv-loop μ-loop
 returns-2 c =
-    let d = c .before .before .before .before .before in
-    let f = d .before .before .before .before .before .before in
-    let t = f .before .before .before in
-    let i = t .before .loop in
-    let b = t .before .before .before .before .args .b in
-    let z = d .step .last .1 .1 in
-    let after = look b (z .0) (z .1 .0) (z .1 .1 .0) (z .1 .1 .1 .0) in
-    let shows = not-carried-out (d .step .result) (c .before .before .if2 .taken) after (z .1 .1 .1 .1 .0) ∙ d .step .ensures .tells in
-    let range = told-refusal _ (i .inv .ready .few) (look b (i .cells) (i .points) (i .vars) (i .stack)) _ (i .inv .ready .ranges) _ _ _ shows in
-    stopped-left after _ (c .set-state .ensures .shows b (z .1 .0) (z .1 .1 .0) (z .1 .1 .1 .0)) range _ (i .steps)
-    ∙ stop _ _ (i .steps) _ (i .screen) _ (i .inv .same) _ _ _ (t .loop-test .taken) (running _ (sym (f .before .state .ensures) ∙ f .if1 .left)) shows
-
-add-steps : tie.Need-add-steps Inv-loop μ-loop
-add-steps c =
-    let t = c .before .before .before .before .before .before .before .before .before .before .before .before in
-    omega (arith, t .loop-test .taken, t .before .before .before .before .fits .budget)
-
-loop-again : tie.Need-loop-again Inv-loop μ-loop
-loop-again c =
     let d = c .before .before .before in
     let f = d .before .before .before .before .before .before in
     let t = f .before .before .before in
     let i = t .before .loop in
     let b = t .before .before .before .before .args .b in
-    let z = d .step .last .1 .1 in
+    let z = d .step .last .1 in
     let after = look b (z .0) (z .1 .0) (z .1 .1 .0) (z .1 .1 .1 .0) in
-    let shows = carried-out (c .if2 .left) after (z .1 .1 .1 .1 .0) ∙ d .step .ensures .tells in
-    let long = d .step .kept .1 .1 .1 .1 .1 .1 .0 in
+    let shows = not-carried-out frame after (z .1 .1 .1 .1 .0) (d .step .result) (c .before .before .if2 .taken) ∙ d .step .ensures .tells b in
+    let range = told-refusal _ (i .inv .ready .few) (look b (i .cells) (i .points) (i .vars) (i .stack)) (i .inv .ready .ranges) _ _ shows in
+    stopped-left after _ (c .set-state .ensures .shows b (z .1 .0) (z .1 .1 .0) (z .1 .1 .1 .0)) range _ (i .steps)
+    ∙ stop _ _ (i .steps) _ (i .screen) _ (i .inv .same) _ _ (t .loop-test .taken) (running _ (sym (f .before .state .ensures) ∙ f .if1 .left)) shows
+
+paint-requires : tie.Need-paint-requires Inv-loop μ-loop
+paint-requires c κs =
+    let g = c .before in
+    let y = g .before .before .before .before in
+    let d = y .before .before in
+    let t = d .before .before .before .before .before .before .before .before .before in
+    let i = t .before .loop in
+    let b = t .before .before .before .before .args .b in
+    let z = d .step .last .1 in
+    let p = z .1 .1 .1 .1 .0 in
+    let after = look b (z .0) (z .1 .0) (z .1 .1 .0) (z .1 .1 .1 .0) in
+    let shows = painting frame after p (y .if3 .taken) ∙ d .step .ensures .tells b in
+    let ranges = leaves-fits _ (i .inv .ready .few) (look b (i .cells) (i .points) (i .vars) (i .stack)) (i .inv .ready .ranges) _ (marks (brushed (frame after) p)) shows in
+    (may-draw after (i .screen) (g .frame .ensures (z .1 .1 .0) (z .1 .1 .1 .0)) (i .inv .ready .size) ranges (i .inv .ready .area), d .step .ensures .brush .1)
+
+turned : (c : tie.Joined3 Inv-loop μ-loop) →
+    let d = c .before .before in
+    let t = d .before .before .before .before .before .before .before .before .before in
+    let i = t .before .loop in
+    let g = t .before .before .before .before .args in
+    let z = d .step .last .1 in
+    Turned (afgis (g .words .now)) (look (g .b) (i .cells) (i .points) (i .vars) (i .stack)) (i .screen) (look (g .b) (z .0) (z .1 .0) (z .1 .1 .0) (z .1 .1 .1 .0)) (c .if3 .screen)
+turned c =
+    let d = c .before .before in
+    let t = d .before .before .before .before .before .before .before .before .before in
+    let i = t .before .loop in
+    let g = t .before .before .before .before .args in
+    let z = d .step .last .1 in
+    let before = look (g .b) (i .cells) (i .points) (i .vars) (i .stack) in
+    let after = look (g .b) (z .0) (z .1 .0) (z .1 .1 .0) (z .1 .1 .1 .0) in
+    let told = d .step .ensures .tells (g .b) in
+    ⊎-elim
+    (λ w.
+    turned-painting (afgis (g .words .now)) frame before (i .screen) (d .step .result) after (z .1 .1 .1 .1 .0) told (w .0 .taken) (w .4 .ensures (z .1 .1 .0) (z .1 .1 .1 .0))
+    (w .9 ∙ w .6 .ensures))
+    (λ w. turned-quiet (afgis (g .words .now)) frame before (i .screen) (d .step .result) after (z .1 .1 .1 .1 .0) told (c .before .if2 .left) (w .0 .left) (w .1))
+    (c .if3 .came)
+
+add-steps : tie.Need-add-steps Inv-loop μ-loop
+add-steps c =
+    let t = c .before .before .before .before .before .before .before .before .before .before .before in
+    omega (arith, t .loop-test .taken, t .before .before .before .before .fits .budget)
+
+loop-again : tie.Need-loop-again Inv-loop μ-loop
+loop-again c =
+    let d = c .before .before in
+    let f = d .before .before .before .before .before .before in
+    let t = f .before .before .before in
+    let i = t .before .loop in
+    let b = t .before .before .before .before .args .b in
+    let x = turned c in
     record {
       ready = record {
         few = i .inv .ready .few;
         cells = d .step .ensures .cells;
         points = d .step .ensures .points;
         size = i .inv .ready .size;
-        ranges = leaves-fits _ (i .inv .ready .few) (look b (i .cells) (i .points) (i .vars) (i .stack)) _ (i .inv .ready .ranges) _ _ shows;
+        ranges = leaves-fits _ (i .inv .ready .few) (look b (i .cells) (i .points) (i .vars) (i .stack)) (i .inv .ready .ranges) _ (x .dots) (x .shows);
         full = d .step .ensures .full;
-        area = long ∙ i .inv .ready .area;
+        area = turned-long _ x ∙ i .inv .ready .area;
       };
       in-budget = omega arith;
-      as-long = long ∙ i .inv .as-long;
-      same = go-on _ _ (i .steps) _ (i .screen) _ (i .inv .same) _ _ (t .loop-test .taken) (running _ (sym (f .before .state .ensures) ∙ f .if1 .left)) shows;
+      as-long = turned-long _ x ∙ i .inv .as-long;
+      same = go-on _ _ (i .steps) _ (i .screen) _ (i .inv .same) _ _ x (t .loop-test .taken) (running _ (sym (f .before .state .ensures) ∙ f .if1 .left));
     }
 
 pub turns-spec : {M : Type 1} → statement M
@@ -94,10 +146,12 @@ turns-spec =
     (λ c κs. search needs)
     (λ c. c .before .before .before .before .loop .inv .as-long)
     returns
-    (λ c κs. c .before .before .before .before .before .before .before .before .before .loop .inv .ready)
-    (λ c κs. c .before .before .before .before .step .ensures .cells)
-    (λ c. c .before .before .before .before .before .step .kept .1 .1 .1 .1 .1 .1 .0 ∙ c .before .before .before .before .before .before .before .before .before .before .before .before .before .before .before .loop .inv .as-long)
+    step-requires
+    (λ c κs. c .before .before .step .ensures .cells)
+    (λ c. c .before .before .before .before .before .before .before .before .before .before .before .before .before .loop .inv .as-long)
     returns-2
+    (λ c κs. search needs)
+    paint-requires
     add-steps
     (λ c. omega arith)
     loop-again

@@ -1,21 +1,25 @@
 -- `step`: the word has its row of the table, what was taken is what the row's source names, and the op does what its rule says.
 use Prim.Native.Nat.{ℕ}
-use mathlib.Core.Path.{_≡_, sym}
+use mathlib.Core.Path.{_≡_, sym, ap}
 use native.Mathlib.Omega.{arith}
 use borrow.Author.Needs.{needs}
 use lib.ListN.{length}
+use Rattle.numbers.specs.declared.place.WordIndex.{WordIndex}
 use Rattle.rules.specs.Table.{formOf}
 use Rattle.rules.proofs.TableLaws.{at, unknown}
-use Rattle.run.proofs.Stepping.{Here, step-20, reaches, drawable, stacked, step-21, step-turns, step-sets, step-stacks, step-moves, step-paints, step-draws}
-use Rattle.run.proofs.step.step.Statement.{statement}
-use Rattle.run.proofs.step.step.Tie as tie
+use Rattle.step.proofs.Stepping.{Here, step-20, reaches, handed, drawable, stacked, step-21, step-turns, step-sets, step-stacks, step-moves, step-paints, step-draws}
+use Rattle.step.proofs.step.step.Statement.{statement}
+use Rattle.step.proofs.step.step.Tie as tie
 
-here : (d : tie.After-shared-slice-known2) → let a = d .before .before .before .before .before .before .before .args in
-    Here (a .words .now) (a .b) (a .cells .now) (a .points .now) (a .vars .now) (a .stack .now) (a .screen .now) (d .before .before .before .counter .result .0)
-here d = record { ready = d .before .before .before .before .before .before .before .pre; counter = d .before .before .before .counter .ensures; inside = d .before .if1 .left }
+index : {i j : WordIndex} → i ≡ j → i .0 ≡ j .0
+index e = ap (λ (i : WordIndex). i .0) e
+
+here : (d : tie.After-shared-slice-known2) → let a = d .before .before .before .before .before .before .args in
+    Here (a .words .now) (a .cells .now) (a .points .now) (a .vars .now) (a .stack .now) (a .brush .now) (d .before .before .before .counter .result .0)
+here d = record { ready = d .before .before .before .before .before .before .pre; counter = index (d .before .before .before .counter .ensures); inside = d .before .if1 .left }
 
 abbrev count : tie.After-shared-slice-known2 → ℕ
-count d = length (d .before .before .before .before .before .before .before .args .words .now)
+count d = length (d .before .before .before .before .before .before .args .words .now)
 
 row : {n k : ℕ} → n ≡ k → formOf n ≡ formOf k
 row e = sym (at e)
@@ -27,7 +31,7 @@ step-spec =
     (tie.spec
     (λ c κs. search needs)
     (λ c. search needs)
-    (λ c. step-20 (c .before .before .before .before .before .before .pre) (c .before .before .counter .ensures) (c .if1 .taken))
+    (λ c. step-20 (c .before .before .before .before .before .pre) (index (c .before .before .counter .ensures)) (c .if1 .taken))
     (λ c. search needs)
     (λ c. search needs)
     (λ c. search needs)
@@ -76,9 +80,9 @@ step-spec =
     (λ c κs. reaches (here (c .before .before)))
     (λ c κs. (c .before .before .var-var5 .ensures .1, (here (c .before .before .before .before .before)) .ready .cells))
     (λ c κs. reaches (here (c .before)))
-    (λ c κs. drawable (here (c .before .before .before .before .before)))
+    (λ c κs. handed (here (c .before .before .before .before)))
     (λ c κs. (reaches (here (c .before .before)), omega arith, omega arith))
-    (λ c κs. drawable (here (c .before .before .before .before .before .before)))
+    (λ c κs. handed (here (c .before .before .before .before .before)))
     (λ c κs. reaches (here (c .before)))
     (λ c κs. drawable (here (c .before .before .before .before .before)))
     (λ c κs. (reaches (here (c .before .before)), omega arith, omega arith))
@@ -104,9 +108,9 @@ step-spec =
     (λ c κs. reaches (here (c .before .before)))
     (λ c κs. (c .before .before .var-var8 .ensures .1, (here (c .before .before .before .before .before)) .ready .cells))
     (λ c κs. reaches (here (c .before)))
-    (λ c κs. drawable (here (c .before .before .before .before .before)))
+    (λ c κs. handed (here (c .before .before .before .before)))
     (λ c κs. (reaches (here (c .before .before)), omega arith, omega arith))
-    (λ c κs. drawable (here (c .before .before .before .before .before .before)))
+    (λ c κs. handed (here (c .before .before .before .before .before)))
     (λ c κs. reaches (here (c .before)))
     (λ c κs. stacked (here (c .before .before .before .before)))
     (λ c κs. reaches (here (c .before)))
@@ -118,13 +122,13 @@ step-spec =
     (λ c κs. (reaches (here (c .before .before)), omega arith, omega arith))
     (λ c κs. stacked (here (c .before .before .before .before .before)))
     (λ c κs. reaches (here (c .before)))
-    (λ c κs. drawable (here (c .before .before .before .before .before)))
+    (λ c κs. handed (here (c .before .before .before .before)))
     (λ c κs. (reaches (here (c .before .before)), omega arith, omega arith))
-    (λ c κs. drawable (here (c .before .before .before .before .before .before)))
+    (λ c κs. handed (here (c .before .before .before .before .before)))
     (λ c κs. reaches (here (c .before)))
-    (λ c κs. drawable (here (c .before .before .before .before .before)))
+    (λ c κs. handed (here (c .before .before .before .before)))
     (λ c κs. (reaches (here (c .before .before)), omega arith, omega arith))
-    (λ c κs. drawable (here (c .before .before .before .before .before .before)))
+    (λ c κs. handed (here (c .before .before .before .before .before)))
     (λ c. let m = c .before .before .before in step-turns (here (m .before)) (row (m .match .keys1)) (c .before .before .plain .ensures _) (c .noop .ensures (count (m .before))))
     (λ c. let m = c .before .before .before in step-turns (here (m .before)) (row (m .match .keys2)) (c .before .before .plain2 .ensures _) (c .end .ensures (count (m .before))))
     (λ c. let m = c .before .before .before .before in step-sets (here (m .before)) (row (m .match .keys3)) (c .before .before .before .long-var .ensures .0 _) (c .add .ensures (count (m .before))))
@@ -147,18 +151,12 @@ step-spec =
     (λ c. let m = c .before .before .before .before in step-sets (here (m .before)) (row (m .match .keys20)) (c .before .before .before .word-var .ensures .0 _) (c .load .ensures (count (m .before))))
     (λ c. let m = c .before .before .before .before in step-sets (here (m .before)) (row (m .match .keys21)) (c .before .before .before .long-var4 .ensures .0 _) (c .load2 .ensures (count (m .before))))
     (λ c. let m = c .before .before .before .before .before in step-sets (here (m .before)) (row (m .match .keys22)) (c .before .before .before .var-var5 .ensures .0) (c .load3 .ensures (count (m .before))))
-    (λ c. search needs)
-    (λ c. let m = c .before .before .before .before .before .before .before in step-paints (here (m .before)) (row (m .match .keys23)) (c .before .before .before .before .before .before .plain5 .ensures _) (c .before .before .line .ensures (count (m .before))))
-    (λ c. search needs)
-    (λ c. let m = c .before .before .before .before .before .before .before .before in step-paints (here (m .before)) (row (m .match .keys24)) (c .before .before .before .before .before .before .from5 .ensures) (c .before .before .line2 .ensures (count (m .before))))
-    (λ c. search needs)
-    (λ c. let m = c .before .before .before .before .before .before .before in step-draws (here (m .before)) (row (m .match .keys25)) (c .before .before .before .before .before .before .plain6 .ensures _) (c .before .before .line-to .ensures (count (m .before))))
-    (λ c. search needs)
-    (λ c. let m = c .before .before .before .before .before .before .before .before in step-draws (here (m .before)) (row (m .match .keys26)) (c .before .before .before .before .before .before .from6 .ensures) (c .before .before .line-to2 .ensures (count (m .before))))
-    (λ c. search needs)
-    (λ c. let m = c .before .before .before .before .before .before .before in step-draws (here (m .before)) (row (m .match .keys27)) (c .before .before .before .before .before .before .plain7 .ensures _) (c .before .before .line-by .ensures (count (m .before))))
-    (λ c. search needs)
-    (λ c. let m = c .before .before .before .before .before .before .before .before in step-draws (here (m .before)) (row (m .match .keys28)) (c .before .before .before .before .before .before .from7 .ensures) (c .before .before .line-by2 .ensures (count (m .before))))
+    (λ c. let m = c .before .before .before .before in step-paints (here (m .before)) (row (m .match .keys23)) (c .before .before .before .plain5 .ensures _) (c .line .ensures (count (m .before))))
+    (λ c. let m = c .before .before .before .before .before in step-paints (here (m .before)) (row (m .match .keys24)) (c .before .before .before .from5 .ensures) (c .line2 .ensures (count (m .before))))
+    (λ c. let m = c .before .before .before .before .before in step-draws (here (m .before)) (row (m .match .keys25)) (c .before .before .before .before .plain6 .ensures _) (c .line-to .ensures (count (m .before))))
+    (λ c. let m = c .before .before .before .before .before .before in step-draws (here (m .before)) (row (m .match .keys26)) (c .before .before .before .before .from6 .ensures) (c .line-to2 .ensures (count (m .before))))
+    (λ c. let m = c .before .before .before .before .before in step-draws (here (m .before)) (row (m .match .keys27)) (c .before .before .before .before .plain7 .ensures _) (c .line-by .ensures (count (m .before))))
+    (λ c. let m = c .before .before .before .before .before .before in step-draws (here (m .before)) (row (m .match .keys28)) (c .before .before .before .before .from7 .ensures) (c .line-by2 .ensures (count (m .before))))
     (λ c. let m = c .before .before .before .before .before in step-sets (here (m .before)) (row (m .match .keys29)) (c .before .before .before .var-var6 .ensures .0) (c .multiply .ensures (count (m .before))))
     (λ c. let m = c .before .before .before .before .before in step-sets (here (m .before)) (row (m .match .keys30)) (c .before .before .before .var-var7 .ensures .0) (c .remainder .ensures (count (m .before))))
     (λ c. let m = c .before .before .before .before in step-moves (here (m .before)) (row (m .match .keys31)) (c .before .before .before .plain8 .ensures _) (c .move-to .ensures (count (m .before))))
@@ -167,21 +165,15 @@ step-spec =
     (λ c. let m = c .before .before .before .before .before in step-moves (here (m .before)) (row (m .match .keys34)) (c .before .before .before .from9 .ensures) (c .move-by2 .ensures (count (m .before))))
     (λ c. let m = c .before .before .before .before in step-sets (here (m .before)) (row (m .match .keys35)) (c .before .before .before .long-var5 .ensures .0 _) (c .or .ensures (count (m .before))))
     (λ c. let m = c .before .before .before .before .before in step-sets (here (m .before)) (row (m .match .keys36)) (c .before .before .before .var-var8 .ensures .0) (c .or2 .ensures (count (m .before))))
-    (λ c. search needs)
-    (λ c. let m = c .before .before .before .before .before .before .before in step-paints (here (m .before)) (row (m .match .keys37)) (c .before .before .before .before .before .before .plain10 .ensures _) (c .before .before .pixel .ensures (count (m .before))))
-    (λ c. search needs)
-    (λ c. let m = c .before .before .before .before .before .before .before .before in step-paints (here (m .before)) (row (m .match .keys38)) (c .before .before .before .before .before .before .from10 .ensures) (c .before .before .pixel2 .ensures (count (m .before))))
+    (λ c. let m = c .before .before .before .before in step-paints (here (m .before)) (row (m .match .keys37)) (c .before .before .before .plain10 .ensures _) (c .pixel .ensures (count (m .before))))
+    (λ c. let m = c .before .before .before .before .before in step-paints (here (m .before)) (row (m .match .keys38)) (c .before .before .before .from10 .ensures) (c .pixel2 .ensures (count (m .before))))
     (λ c. let m = c .before .before .before .before in step-stacks (here (m .before)) (row (m .match .keys39)) (c .before .before .before .plain11 .ensures _) (c .come-back .ensures (count (m .before))))
     (λ c. let m = c .before .before .before in step-turns (here (m .before)) (row (m .match .keys40)) (c .before .before .word-long .ensures _) (c .jump .ensures))
     (λ c. let m = c .before .before .before in step-turns (here (m .before)) (row (m .match .keys41)) (c .before .before .plain12 .ensures _) (c .jump-by .ensures))
     (λ c. let m = c .before .before .before .before in step-stacks (here (m .before)) (row (m .match .keys42)) (c .before .before .before .plain13 .ensures _) (c .call-by .ensures))
     (λ c. let m = c .before .before .before .before .before in step-stacks (here (m .before)) (row (m .match .keys43)) (c .before .before .before .from11 .ensures) (c .call-by2 .ensures))
-    (λ c. search needs)
-    (λ c. let m = c .before .before .before .before .before .before .before in step-paints (here (m .before)) (row (m .match .keys44)) (c .before .before .before .before .before .before .word2-long .ensures _) (c .before .before .pixel-colour .ensures (count (m .before))))
-    (λ c. search needs)
-    (λ c. let m = c .before .before .before .before .before .before .before .before in step-paints (here (m .before)) (row (m .match .keys45)) (c .before .before .before .before .before .before .from12 .ensures) (c .before .before .pixel-colour2 .ensures (count (m .before))))
-    (λ c. search needs)
-    (λ c. let m = c .before .before .before .before .before .before .before in step-paints (here (m .before)) (row (m .match .keys46)) (c .before .before .before .before .before .before .long-word .ensures _) (c .before .before .clear .ensures (count (m .before))))
-    (λ c. search needs)
-    (λ c. let m = c .before .before .before .before .before .before .before .before in step-paints (here (m .before)) (row (m .match .keys47)) (c .before .before .before .before .before .before .from13 .ensures) (c .before .before .clear2 .ensures (count (m .before))))
+    (λ c. let m = c .before .before .before .before in step-paints (here (m .before)) (row (m .match .keys44)) (c .before .before .before .word2-long .ensures _) (c .pixel-colour .ensures (count (m .before))))
+    (λ c. let m = c .before .before .before .before .before in step-paints (here (m .before)) (row (m .match .keys45)) (c .before .before .before .from12 .ensures) (c .pixel-colour2 .ensures (count (m .before))))
+    (λ c. let m = c .before .before .before .before in step-paints (here (m .before)) (row (m .match .keys46)) (c .before .before .before .long-word .ensures _) (c .clear .ensures (count (m .before))))
+    (λ c. let m = c .before .before .before .before .before in step-paints (here (m .before)) (row (m .match .keys47)) (c .before .before .before .from13 .ensures) (c .clear2 .ensures (count (m .before))))
     (λ c. step-21 (here (c .before)) (unknown _ (c .match .rest))))

@@ -1,0 +1,130 @@
+-- A run of any player, turn by turn, as a loop holds it: R is the answer of the whole, k of its b opcodes are carried out.
+use Prim.Native.Nat.{ℕ, zero, suc, _+_, _-_, _<_, _≤_}
+use mathlib.Core.Path.{_≡_, refl, sym, ap, ap₂, _∙_}
+use mathlib.Core.Bool.{false}
+use mathlib.Core.List.{List}
+use native.Mathlib.Omega.{arith}
+use native.Mathlib.Numerals.{add-one}
+use lib.ListN.{length}
+use Rattle.raster.specs.declared.frame.Bounds.{Bounds}
+use Rattle.raster.specs.declared.frame.Frame.{Frame}
+use Rattle.raster.specs.Paint.{paint}
+use Rattle.raster.specs.Brush.{shapeOf, colourOf}
+use Rattle.raster.proofs.Recolour.{none, length-recolour}
+use Rattle.player.specs.declared.Verdict.{Verdict}
+use Rattle.player.specs.declared.State.{State}
+use Rattle.player.specs.declared.State.the-variants.{Running, Ended, Stopped}
+use Rattle.player.specs.Painting.{Painting, painted}
+use Rattle.player.specs.Player.{verdict, Outcome, done, refused, Player}
+use Rattle.player.specs.Run.{Answer, answer, by-state, by-opcode, runs}
+use Rattle.player.specs.Shown.{Marks, marks, unmarked, marked, went, stayed, shown, brushed, seen, numberOf}
+
+one-less : (b k : ℕ) → k < b → b - k ≡ suc (b - (k + 1))
+one-less b k h = omega arith
+
+none-left : (b k : ℕ) → b ≤ k → b - k ≡ 0
+none-left b k h = omega arith
+
+-- ---- the screen with the dots that were painted
+marked-is : (p : Painting) (s : List ℕ) → marked (marks p) s ≡ painted p s
+unfolding paint
+marked-is p s = refl
+
+unmarked-is : (b : Bounds) (s : List ℕ) → s ≡ marked (unmarked b) s
+unmarked-is b s = none (λ k. false) 0 s (λ k l t. t)
+
+-- ---- the number q that came back, with the environment e and the brush p
+module _ {E : Type 0} (frame : E → Frame) (e : E) (p : List ℕ) where
+  quiet : (q : ℕ) → q ≤ 1 → (q ≡ 1 → ⊥) → went e (unmarked (frame e .bounds)) ≡ seen frame q e p
+  quiet zero h n = refl
+  quiet (suc zero) h n = absurd (n refl)
+  quiet (suc (suc q)) h n = absurd (omega (arith, h))
+
+  pub painting : {q : ℕ} → q ≡ 1 → went e (marks (brushed (frame e) p)) ≡ seen frame q e p
+  painting z = rw z
+
+  pub not-carried-out : (q : ℕ) → 1 < q → stayed (verdict q) e ≡ seen frame q e p
+  not-carried-out zero n = absurd (omega (arith, n))
+  not-carried-out (suc zero) n = absurd (omega (arith, n))
+  not-carried-out (suc (suc q)) n = refl
+
+module _ {E : Type 0} (P : Player E) where
+  -- an opcode that was carried out in e, with the screen s: e₁ and s₁ are left
+  pub record Turned (e : E) (s : List ℕ) (e₁ : E) (s₁ : List ℕ) : Type 0 where
+    pub dots : Marks
+    pub screen : s₁ ≡ marked dots s
+    pub shows : went e₁ dots ≡ shown (P .step e) e
+
+  pub turned-long : {e : E} {s : List ℕ} {e₁ : E} {s₁ : List ℕ} → Turned e s e₁ s₁ → length s₁ ≡ length s
+  turned-long {s = s} t = ap length (t .screen) ∙ length-recolour _ _ s
+
+  module _ (frame : E → Frame) (e : E) (s : List ℕ) (q : ℕ) (e₁ : E) (p : List ℕ) (told : seen frame q e₁ p ≡ shown (P .step e) e) {s₁ : List ℕ} where
+    -- 1 came back, and what the brush holds was painted
+    pub turned-painting : q ≡ 1 → {f : Frame} → f ≡ frame e₁ → s₁ ≡ paint f (shapeOf p) (colourOf p) s → Turned e s e₁ s₁
+    turned-painting z is x =
+        record {
+          dots = marks (brushed (frame e₁) p);
+          screen = x ∙ (ap (λ (g : Frame). paint g (shapeOf p) (colourOf p) s) is ∙ sym (marked-is (brushed (frame e₁) p) s));
+          shows = painting frame e₁ p z ∙ told;
+        }
+
+    -- 0 came back, and nothing was
+    pub turned-quiet : q ≤ 1 → (q ≡ 1 → ⊥) → s₁ ≡ s → Turned e s e₁ s₁
+    turned-quiet h n x =
+        let b = frame e₁ .bounds in
+        record { dots = unmarked b; screen = x ∙ unmarked-is b s; shows = quiet frame e₁ p q h n ∙ told }
+
+module _ {E : Type 0} (P : Player E) (left : ℕ) (e : E) (s : List ℕ) (k : ℕ) where
+  abbrev turn : State → Outcome E → Answer E
+  turn q o = by-state P q e s k (by-opcode P o e s k (λ e' s' j. runs P left e' s' j))
+
+  -- a state that does not run answers its number
+  rests : (q : State) → P .state e ≡ q → (q ≡ Running → ⊥) → answer (verdict (numberOf (P .state e))) e s k ≡ runs P (suc left) e s k
+  unfolding runs
+  rests Running h n = absurd (n refl)
+  rests Ended h n = rw h
+  rests (Stopped v) h n = rw h
+
+  -- an opcode that is carried out: the run goes on from what it shows
+  goes : (e₁ : E) (m : Marks) → P .state e ≡ Running → (o : Outcome E) → P .step e ≡ o → went e₁ m ≡ shown o e
+      → runs P (suc left) e s k ≡ runs P left e₁ (marked m s) (suc k)
+  unfolding runs
+  goes e₁ m h (done e' p) d q =
+      let env : e' ≡ e₁ = cc in
+      let dots : marks p ≡ m = cc in
+      ap (λ (x : State). turn x (P .step e)) h
+      ∙ (ap (turn Running) d
+      ∙ ap₂ (λ (x : E) (t : List ℕ). runs P left x t (suc k)) env (sym (marked-is p s) ∙ ap (λ (x : Marks). marked x s) dots))
+  goes e₁ m h (refused v) d q = cc
+
+  -- one that is refused stops it
+  stops : (v : Verdict) (e₁ : E) → P .state e ≡ Running → (o : Outcome E) → P .step e ≡ o → stayed v e₁ ≡ shown o e
+      → runs P (suc left) e s k ≡ answer v (P .stop v e₁) s k
+  unfolding runs
+  stops v e₁ h (done e' p) d q = cc
+  stops v e₁ h (refused u) d q = ap (λ (x : State). turn x (P .step e)) h ∙ (ap (turn Running) d ∙ cc)
+
+module _ {E : Type 0} (P : Player E) (b k : ℕ) (e : E) (s : List ℕ) (R : Answer E) (at : R ≡ runs P (b - k) e s k) where
+  more : k < b → R ≡ runs P (suc (b - (k + 1))) e s k
+  more h = at ∙ ap (λ (n : ℕ). runs P n e s k) (one-less b k h)
+
+  pub rest : k < b → (P .state e ≡ Running → ⊥) → answer (verdict (numberOf (P .state e))) e s k ≡ R
+  rest h n = rests P (b - (k + 1)) e s k (P .state e) refl n ∙ sym (more h)
+
+  pub go-on : (e₁ : E) (s₁ : List ℕ) → Turned P e s e₁ s₁ → k < b → P .state e ≡ Running → R ≡ runs P (b - (k + 1)) e₁ s₁ (k + 1)
+  go-on e₁ s₁ t h q =
+      more h
+      ∙ (goes P (b - (k + 1)) e s k e₁ (t .dots) q (P .step e) refl (t .shows)
+      ∙ ap₂ (λ (x : List ℕ) (n : ℕ). runs P (b - (k + 1)) e₁ x n) (sym (t .screen)) (sym (add-one k)))
+
+  pub stop : (v : Verdict) (e₁ : E) → k < b → P .state e ≡ Running → stayed v e₁ ≡ shown (P .step e) e → answer v (P .stop v e₁) s k ≡ R
+  stop v e₁ h q d = sym (more h ∙ stops P (b - (k + 1)) e s k v e₁ q (P .step e) refl d)
+
+  pub used-up : b ≤ k → answer (verdict (numberOf (P .state e))) e s k ≡ R
+  unfolding runs
+  used-up h = at-state (P .state e) refl ∙ sym (at ∙ ap (λ (n : ℕ). runs P n e s k) (none-left b k h))
+    where
+      at-state : (q : State) → P .state e ≡ q → answer (verdict (numberOf (P .state e))) e s k ≡ runs P 0 e s k
+      at-state Running q = rw q
+      at-state Ended q = rw q
+      at-state (Stopped v) q = rw q

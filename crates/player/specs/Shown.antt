@@ -1,0 +1,57 @@
+-- What is seen of an opcode from outside, for which no screen is needed; what of it a loop paints; and what a state answers.
+use Prim.Native.Nat.{ℕ, zero, suc}
+use mathlib.Core.Bool.{false, _&&_}
+use mathlib.Core.List.{List}
+use Rattle.raster.specs.declared.frame.Bounds.{Bounds}
+use Rattle.raster.specs.declared.frame.Frame.{Frame}
+use Rattle.raster.specs.Shapes.{Shape}
+use Rattle.raster.specs.Frame.{drawable}
+use Rattle.raster.specs.Paint.{recolour, columnOf, rowOf}
+use Rattle.raster.specs.Brush.{shapeOf, colourOf}
+use Rattle.player.specs.declared.Verdict.{Verdict}
+use Rattle.player.specs.declared.State.{State}
+use Rattle.player.specs.declared.State.the-variants.{Running, Ended, Stopped}
+use Rattle.player.specs.Painting.{Painting}
+use Rattle.player.specs.Player.{verdict, Outcome, done, refused}
+
+-- ---- the dots that are painted: all of them drawable, on a screen of this size, in this colour
+pub record Marks : Type 0 where
+  pub bounds : Bounds
+  pub dots : Shape
+  pub colour : ℕ
+
+abbrev pub marks : Painting → Marks
+marks p = record { bounds = p .frame .bounds; dots = λ x y. drawable (p .frame) x y && p .shape x y; colour = p .colour }
+
+-- no dot
+abbrev pub unmarked : Bounds → Marks
+unmarked b = record { bounds = b; dots = λ x y. false; colour = 0 }
+
+-- the screen with these dots painted
+abbrev pub marked : Marks → List ℕ → List ℕ
+marked m s = recolour (λ k. m .dots (columnOf (m .bounds) k) (rowOf (m .bounds) k)) (m .colour) s
+
+-- ---- the environment afterwards with the dots that are painted, or the refusal with the environment as it is
+pub data Shown (E : Type 0) : Type 0 where
+  went : E → Marks → Shown E
+  stayed : Verdict → E → Shown E
+
+abbrev pub shown : {E : Type 0} → Outcome E → E → Shown E
+shown (done e' p) e = went e' (marks p)
+shown (refused v) e = stayed v e
+
+-- what a brush paints within a frame
+abbrev pub brushed : Frame → List ℕ → Painting
+brushed f p = record { frame = f; shape = shapeOf p; colour = colourOf p }
+
+-- what a program hands back, with the environment and the brush that it leaves: 0, nothing is painted; 1, what the brush holds; or a refusal's number
+abbrev pub seen : {E : Type 0} → (E → Frame) → ℕ → E → List ℕ → Shown E
+seen frame zero e p = went e (unmarked (frame e .bounds))
+seen frame (suc zero) e p = went e (marks (brushed (frame e) p))
+seen frame (suc (suc n)) e p = stayed (verdict (suc (suc n))) e
+
+-- ---- what a state answers; of one that still runs, that the budget is used up
+abbrev pub numberOf : State → ℕ
+numberOf Running = 1
+numberOf Ended = 0
+numberOf (Stopped v) = v .number

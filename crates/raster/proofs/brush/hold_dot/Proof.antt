@@ -1,0 +1,13 @@
+-- `hold_dot`: the dot is stored moved up.
+use borrow.Author.Needs.{needs}
+use Rattle.raster.proofs.Brushes.{dot-held}
+use Rattle.raster.proofs.brush.hold_dot.Statement.{statement}
+use Rattle.raster.proofs.brush.hold_dot.Tie as tie
+
+pub hold-dot-spec : {M : Type 1} → statement M
+hold-dot-spec =
+    tie.close (tie.spec
+    (λ c κs. search needs) (λ c. search needs) (λ c. search needs) (λ c. search needs) (λ c. search needs)
+    (λ c.
+    let s = c .before in
+    dot-held (s .args .brush .now) (s .pre .0) (s .args .c) (s .fits .c .fits) (s .args .d) (s .pre .1) _ (c .spot-of .ensures)))

@@ -1,0 +1,78 @@
+// What is to be painted, held in six numbers, so that who says what is painted needs no screen; and the painting of it.
+use crate::dots::Dot;
+use crate::dots::plot;
+use crate::fill::fill;
+use crate::frame::Frame;
+use crate::line::Line;
+use crate::line::draw_line;
+use crate::moved::Spot;
+use crate::moved::spot_of;
+ghost use mathlib.Core.Path.{_≡_};
+ghost use Rattle.raster.specs.Shapes.{dot, all};
+ghost use Rattle.raster.specs.Line.{line};
+ghost use Rattle.raster.specs.Frame.{Coord, Fitting};
+ghost use Rattle.raster.specs.Paint as Paint;
+ghost use Rattle.raster.specs.Brush.{Full, NearEnds, Holds, shapeOf, colourOf};
+
+// 0 the kind: 1 a dot, 2 a line, 3 every dot, any other nothing; 1 the colour; 2 and 3 a point, 4 and 5 another, moved up.
+pub type Brush = [u32; 6];
+
+pub fn hold_dot(brush: &mut Brush, d: Dot, c: u8)
+    requires { ⌜ Full (now brush) ⌝ }
+    requires { ⌜ Coord (d .x) × Coord (d .y) ⌝ }
+    ensures { λ _. ⌜ Holds (dot d) c (now (brush .exit)) ⌝ }
+{
+    let p = spot_of(d);
+    brush[0] = 1;
+    brush[1] = c as u32;
+    brush[2] = p.x;
+    brush[3] = p.y;
+}
+
+pub fn hold_line(brush: &mut Brush, l: Line, c: u8)
+    requires { ⌜ Full (now brush) ⌝ }
+    requires { ⌜ Coord (l .from .x) × Coord (l .from .y) × Coord (l .to .x) × Coord (l .to .y) ⌝ }
+    ensures { λ _. ⌜ Holds (line l) c (now (brush .exit)) ⌝ }
+{
+    let p = spot_of(l.from);
+    let q = spot_of(l.to);
+    brush[0] = 2;
+    brush[1] = c as u32;
+    brush[2] = p.x;
+    brush[3] = p.y;
+    brush[4] = q.x;
+    brush[5] = q.y;
+}
+
+pub fn hold_all(brush: &mut Brush, c: u8)
+    requires { ⌜ Full (now brush) ⌝ }
+    ensures { λ _. ⌜ Holds all c (now (brush .exit)) ⌝ }
+{
+    brush[0] = 3;
+    brush[1] = c as u32;
+}
+
+// The drawable dots of what the brush holds, in its colour.
+pub fn paint(screen: &mut [u8], f: Frame, brush: &Brush)
+    requires { ⌜ Fitting f (now screen) ⌝ }
+    requires { ⌜ NearEnds (now brush) ⌝ }
+    ensures { λ _. ⌜ now (screen .exit) ≡ Paint.paint f (shapeOf (now (brush .entry))) (colourOf (now (brush .entry))) (now (screen .entry)) ⌝ }
+{
+    let c = (brush[1] % 256) as u8;
+    let p = Spot {
+        x: brush[2],
+        y: brush[3],
+    };
+    match brush[0] {
+        1 => plot(screen, f, p, c),
+        2 => {
+            let q = Spot {
+                x: brush[4],
+                y: brush[5],
+            };
+            draw_line(screen, f, p, q, c)
+        }
+        3 => fill(screen, f, c),
+        _ => {}
+    }
+}

@@ -1,0 +1,137 @@
+-- What a step may rely on, and what it leaves.
+use Prim.Native.Nat.{ℕ, suc, _+_, _<_, _≤_}
+use mathlib.Core.Path.{_≡_, refl, sym, ap, _∙_}
+use mathlib.Core.Bool.{Bool, true, false, cond}
+use mathlib.Core.List.{List}
+use native.Mathlib.Omega.{arith}
+use borrow.Author.Tests.{leb-true}
+use lib.ListN.{length}
+use lib.Dec.{ltb}
+use lib.IntN.{ℤ}
+use Rattle.numbers.specs.declared.place.WordIndex.{WordIndex}
+use Rattle.raster.specs.declared.frame.Bounds.{Bounds}
+use Rattle.player.specs.Player.{verdict, Outcome, refused}
+use Rattle.player.specs.Shown.{shown}
+use Rattle.rules.specs.declared.opcode.Op.{Op}
+use Rattle.rules.specs.declared.opcode.Operands.{Operands}
+use Rattle.rules.specs.declared.opcode.Source.{Source}
+use Rattle.rules.specs.declared.opcode.Form.the-variants.{Unknown, Known}
+use Rattle.rules.specs.Table.{formOf}
+use Rattle.rules.specs.Operands.{at, pieces, sizeOf, highest, operands}
+use Rattle.rules.specs.Environment.{Env, firsts}
+use Rattle.rules.specs.Opcodes.{rule}
+use Rattle.rules.specs.Step.{step}
+use Rattle.rules.proofs.StackLaws.{length-firsts}
+use Rattle.rules.proofs.Ranges.{Fits, parted}
+use Rattle.rules.proofs.DoorLaws.{coord}
+use Rattle.fetch.specs.declared.source.Taken.{Taken}
+use Rattle.fetch.specs.declared.source.Taken.the-variants.{Refused, Got}
+use Rattle.fetch.specs.Stages.{Reaches, takenOf}
+use Rattle.fetch.proofs.Steps as Fetched
+use Rattle.act.specs.Held.{celled, look}
+use Rattle.act.specs.Shown.{Shown, does, answers}
+use Rattle.act.specs.Contracts.{Handed, Drawable, Stacked, Turns, Sets, Stacks, Moves, Paints, Draws}
+use Rattle.step.specs.Steps.{Able, Steps}
+
+-- a step is taken at pc: all is ready, and the list has a word there
+pub record Here (w cs : List ℕ) (ps : List ℤ) (vs st p : List ℕ) (pc : ℕ) : Type 0 where
+  pub ready : Able w cs ps vs st p
+  pub counter : pc ≡ celled cs .counter .0
+  pub inside : pc < length w
+
+module _ {w cs : List ℕ} {ps : List ℤ} {vs st p : List ℕ} where
+  -- refused with 2 + n, and all stays
+  refuses : Able w cs ps vs st p → (n : ℕ) → ((b : Bounds) → step w (look b cs ps vs st) ≡ refused (verdict (suc (suc n))))
+      → Steps (suc (suc n)) w cs ps vs st cs ps vs st p
+  refuses r n d =
+      record {
+        cells = r .cells;
+        points = r .points;
+        full = r .full;
+        brush = r .brush;
+        tells = λ b. sym (ap (λ (x : Outcome Env). shown x (look b cs ps vs st)) (d b));
+      }
+
+  pub step-20 : Able w cs ps vs st p → {pc : ℕ} → pc ≡ celled cs .counter .0 → length w ≤ pc → Steps 20 w cs ps vs st cs ps vs st p
+  step-20 r e l = refuses r 18 (λ b. Fetched.step-20 w (look b cs ps vs st) (rw (← e) l))
+
+  module _ {pc : ℕ} (h : Here w cs ps vs st p pc) where
+    -- ---- what fetch and act ask
+    pub reaches : Reaches w pc 0
+    reaches = (omega (arith, h .inside), h .ready .few)
+
+    -- an environment that is in range
+    abbrev some : Env
+    some = look (h .ready .bounds) cs ps vs st
+
+    in-range : Fits (h .ready .bounds) some
+    in-range = parted some (h .ready .ranges)
+
+    pub handed : Handed cs p
+    handed = (h .ready .cells, h .ready .brush)
+
+    pub drawable : Drawable cs ps p
+    drawable =
+        record {
+          cells = h .ready .cells;
+          points = h .ready .points;
+          brush = h .ready .brush;
+          here = (coord (some .pen .position .x) (in-range .1 .x), coord (some .pen .position .y) (in-range .1 .y));
+        }
+
+    pub stacked : Stacked cs st
+    stacked =
+        record {
+          cells = h .ready .cells;
+          deep = omega (arith, leb-true (length (firsts (celled cs .depth) st)) 16 (in-range .2 .depth), length-firsts (celled cs .depth) st);
+          full = h .ready .full;
+        }
+
+    -- ---- what the opcode word says
+    inside : celled cs .counter .0 < length w
+    inside = rw (h .counter) at (h .inside)
+
+    pub step-21 : formOf (at w pc) ≡ Unknown → Steps 21 w cs ps vs st cs ps vs st p
+    step-21 k = refuses (h .ready) 19 (λ b. Fetched.step-21 w (look b cs ps vs st) inside (rw (h .counter) at k))
+
+    module _ {op : Op} {source : Source} (k : formOf (at w pc) ≡ Known op source) {t : Taken} (g : t ≡ takenOf (pieces source) w pc vs) where
+      -- what an op promises of what was taken is what the rules say of the step
+      told-is : (b : Bounds) (p : List ℕ) → answers t (λ o. rule op o (length w)) (look b cs ps vs st) p ≡ shown (step w (look b cs ps vs st)) (look b cs ps vs st)
+      unfolding answers does takenOf
+      told-is b p =
+          rw (g, h .counter, Fetched.step-taken w (look b cs ps vs st) inside {op = op} {s = source} (rw (h .counter) at k))
+          (go (operands source w (celled cs .counter .0) vs) _ (ltb (length w) (celled cs .counter .0 + sizeOf source)) (ltb 63 (highest (pieces source) w (celled cs .counter .0) 1)))
+        where
+          go : (o : Operands) (next : WordIndex) (x y : Bool) → let t = cond x (Refused 22) (cond y (Refused 23) (Got o next)) in
+              answers t (λ o. rule op o (length w)) (look b cs ps vs st) p ≡ shown (Fetched.resolved w (look b cs ps vs st) inside op t) (look b cs ps vs st)
+          go o next true y = refl
+          go o next false true = refl
+          go o next false false = refl
+
+      abbrev Told : Env → List ℕ → Shown
+      Told = answers t (λ o. rule op o (length w))
+
+      module _ {q : ℕ} {cs' : List ℕ} where
+        pub step-turns : Turns q Told cs cs' → Steps q w cs ps vs st cs' ps vs st p
+        step-turns r =
+            record { cells = r .cells; points = h .ready .points; full = h .ready .full; brush = h .ready .brush; tells = λ b. r .tells b ps vs st p ∙ told-is b p }
+
+        pub step-sets : {vs' : List ℕ} → Sets q Told cs cs' vs vs' → Steps q w cs ps vs st cs' ps vs' st p
+        step-sets r =
+            record { cells = r .cells; points = h .ready .points; full = h .ready .full; brush = h .ready .brush; tells = λ b. r .tells b ps st p ∙ told-is b p }
+
+        pub step-stacks : {st' : List ℕ} → Stacks q Told cs cs' st st' → Steps q w cs ps vs st cs' ps vs st' p
+        step-stacks r =
+            record { cells = r .cells; points = h .ready .points; full = r .deep; brush = h .ready .brush; tells = λ b. r .tells b ps vs p ∙ told-is b p }
+
+        pub step-moves : {ps' : List ℤ} → Moves q Told cs cs' ps ps' → Steps q w cs ps vs st cs' ps' vs st p
+        step-moves r =
+            record { cells = r .cells; points = r .points; full = h .ready .full; brush = h .ready .brush; tells = λ b. r .tells b vs st p ∙ told-is b p }
+
+        pub step-paints : {p' : List ℕ} → Paints q Told cs cs' p' → Steps q w cs ps vs st cs' ps vs st p'
+        step-paints {p'} r =
+            record { cells = r .cells; points = h .ready .points; full = h .ready .full; brush = r .brush; tells = λ b. r .tells b ps vs st ∙ told-is b p' }
+
+        pub step-draws : {ps' : List ℤ} {p' : List ℕ} → Draws q Told cs cs' ps ps' p' → Steps q w cs ps vs st cs' ps' vs st p'
+        step-draws {p' = p'} r =
+            record { cells = r .cells; points = r .points; full = h .ready .full; brush = r .brush; tells = λ b. r .tells b vs st ∙ told-is b p' }

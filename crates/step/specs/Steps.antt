@@ -1,0 +1,32 @@
+-- What one opcode asks and promises, of what the program holds.
+use Prim.Native.Nat.{ℕ, _≤_}
+use mathlib.Core.Path.{_≡_}
+use mathlib.Core.Bool.{true}
+use mathlib.Core.List.{List}
+use lib.ListN.{length}
+use lib.IntN.{ℤ}
+use Rattle.raster.specs.declared.frame.Bounds.{Bounds}
+use Rattle.player.specs.Shown.{shown}
+use Rattle.rules.specs.Step.{step}
+use Rattle.rules.specs.Door.{fits}
+use Rattle.act.specs.Held.{look, Cells, Points}
+use Rattle.act.specs.Shown.{seen}
+use Rattle.act.specs.Contracts.{Brushed}
+
+-- what the door establishes, and every opcode leaves: with some size and pane, all is in range
+pub record Able (w cs : List ℕ) (ps : List ℤ) (vs st p : List ℕ) : Type 0 where
+  pub few : length w ≤ 65536
+  pub cells : Cells cs
+  pub points : Points ps
+  pub bounds : Bounds
+  pub ranges : fits (look bounds cs ps vs st) ≡ true
+  pub full : length st ≡ 16
+  pub brush : Brushed p
+
+-- what came back from one opcode is what the rules say, with all that is lent before and after, whatever the size and the pane
+pub record Steps (q : ℕ) (w cs : List ℕ) (ps : List ℤ) (vs st cs' : List ℕ) (ps' : List ℤ) (vs' st' p' : List ℕ) : Type 0 where
+  pub cells : Cells cs'
+  pub points : Points ps'
+  pub full : length st' ≡ 16
+  pub brush : Brushed p'
+  pub tells : (b : Bounds) → seen q (look b cs' ps' vs' st') p' ≡ shown (step w (look b cs ps vs st)) (look b cs ps vs st)
