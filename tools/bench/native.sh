@@ -28,7 +28,7 @@ listening_toolchain() {
     chmod +x "$out/toolchain/bin/clang"
 }
 
-# The module of ovenlute: the crate is proved again, over the libraries that rt staticlib has proved.
+# The module of ovenlute: the crate is proved again, over the libraries that tools/archive/run has proved.
 module() {
     listening_toolchain
     set -- --extern "std=$own/rlib/std.rlib"
@@ -44,7 +44,7 @@ module() {
     }
 }
 
-# Sets BOX. A struct that is too large for registers is returned as x86-64 does it, so fresh.c stands between.
+# Sets box. A struct that is too large for registers is returned as x86-64 does it, so fresh.c stands between.
 box_for_this_machine() {
     module
     "$tools/bin/clang" --target=x86_64-unknown-linux-gnu -O0 -Xclang -disable-llvm-passes -S -emit-llvm -x ir \
@@ -55,5 +55,5 @@ box_for_this_machine() {
     "$tools/bin/clang" --target="$target" -O3 -fPIC -c -x ir "$out/native.ll" -o "$out/box.o"
     compile tools/bench/fresh.c "$out/fresh.o"
     "$tools/bin/llvm-ar" rc "$out/box.a" "$out/box.o" "$out/fresh.o"
-    BOX=$out/box.a
+    box=$out/box.a
 }

@@ -24,6 +24,13 @@ link() {
     }
 }
 
+# The archive that C links, or the one that BOX names.
+box=${BOX:-target/archive/libovenlute.a}
+
+need_box() {
+    [ -e "$box" ] || { echo "There is no $box: tools/archive/run makes the archive." >&2; exit 1; }
+}
+
 # start PROGRAM [ARGUMENT...]
 start() {
     ${emulator:+"$emulator"} "$tools/lib/ld-linux-x86-64.so.2" --library-path "$tools/lib" "$@"
