@@ -1,4 +1,4 @@
-// Dots, lines and clearing: what is to be painted is left in the brush, and 1 answered.
+// Dots, lines and clearing: what is to be painted is left in the brush, and 1 answered, once the last check has passed.
 use crate::point::Point;
 use crate::point::point_by;
 use crate::point::point_of;

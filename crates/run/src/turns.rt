@@ -1,4 +1,4 @@
-// One opcode after the other: the state comes first, then the budget, then the opcode.
+// One opcode after the other: the state comes first, then the budget, then the opcode, and what it left to be painted.
 use act::registers::Cells;
 use act::registers::Points;
 use act::registers::frame;
