@@ -5,9 +5,9 @@ pub mod Frame
 pub mod Paint
 pub mod Line
 pub mod Stores
-pub mod Brush
--- What only private functions promise:
+-- What only functions inside the box promise:
 pub mod Moved
+pub mod Brush
 pub mod Rects
 pub mod Parts
 pub mod Courses
