@@ -8,11 +8,11 @@ use borrow.Author.Tests.{ne-eqb}
 use lib.ListN.{set}
 use Rattle.raster.specs.declared.dots.Dot.{Dot}
 use Rattle.raster.specs.declared.line.Line.{Line}
-use Rattle.raster.specs.declared.moved.Spot.{Spot}
+use Rattle.raster.specs.declared.biased.Spot.{Spot}
 use Rattle.raster.specs.Shapes.{dot, all}
 use Rattle.raster.specs.Line.{line}
 use Rattle.raster.specs.Frame.{Coord}
-use Rattle.raster.specs.Moved.{spotOf, dotOf, lineOf, NearB}
+use Rattle.raster.specs.Biased.{spotOf, dotOf, lineOf, NearB}
 use Rattle.raster.specs.Brush.{kind, one, other, shapeOf, Full, Holds}
 use Rattle.raster.proofs.Coordinates.{dot-back}
 use Rattle.raster.proofs.Spelt.{one-by-one}
@@ -23,7 +23,7 @@ byte c h = omega (arith, h)
 near-back : (d : Dot) → Coord (d .x) × Coord (d .y) → NearB (spotOf d)
 near-back d h = subst⁻¹ (λ (e : Dot). Coord (e .x) × Coord (e .y)) (dot-back d h) h
 
--- ---- what is stored, p and q moved up, is what was given
+-- ---- what is stored, p and q biased, is what was given
 module _ (b : List ℕ) (l : Full b) (c : ℕ) (k : c < 256) where
   pub dot-held : (d : Dot) → Coord (d .x) × Coord (d .y) → (p : Spot) → p ≡ spotOf d → Holds (dot d) c (set (set (set (set b 0 1) 1 c) 2 (p .x)) 3 (p .y))
   unfolding shapeOf

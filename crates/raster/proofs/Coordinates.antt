@@ -1,4 +1,4 @@
--- Whole numbers and the same numbers moved up: order, equality, sum and difference.
+-- Whole numbers and the same numbers, biased: order, equality, sum and difference.
 use mathlib.Core.Path.{_≡_, refl, sym, ap, _∙_}
 use mathlib.Core.Bool.{Bool, cond}
 use Prim.Native.Nat.{ℕ, zero, suc, _+_, _-_, _<_, _≤_}
@@ -12,16 +12,16 @@ use mir.Val.{toZ, ofZ}
 use mir.Facts.{toZ-ofZ}
 use borrow.Author.Tests.{lt-ltb, le-ltb, le-leb, lt-leb, ne-eqb}
 use Rattle.raster.specs.declared.dots.Dot.{Dot}
-use Rattle.raster.specs.declared.moved.Spot.{Spot}
+use Rattle.raster.specs.declared.biased.Spot.{Spot}
 use Rattle.raster.specs.Shapes.{eqZ}
 use Rattle.raster.specs.Frame.{Coord}
 use Rattle.raster.specs.Line.{gap}
-use Rattle.raster.specs.Moved.{bias, spotOf, dotOf, gapB}
+use Rattle.raster.specs.Biased.{bias, biased, spotOf, dotOf, gapB}
 use Rattle.raster.proofs.Tests.{same, eq→T}
 
-pub bias-lt : (z : ℤ) → mag z < 65536 → bias z < 131072
-bias-lt (pos n) h = omega arith
-bias-lt (negsuc n) h = omega arith
+pub biased-lt : (z : ℤ) → mag z < 65536 → biased z < 131072
+biased-lt (pos n) h = omega arith
+biased-lt (negsuc n) h = omega arith
 
 -- a coordinate comes back whole from a call
 pub back : (z : ℤ) → Coord z → toZ w32 (ofZ w32 z) ≡ z
@@ -51,22 +51,22 @@ neg-minus n zero = sub-same 0 (suc n) 0 (suc n + 0) (omega arith)
 neg-minus n (suc k) = sym (sub-lt 0 (suc n + suc k) (omega arith) ∙ ap negsuc (omega arith))
 
 -- ---- up and down again, and down and up
-down-bias : (z : ℤ) → Coord z → subℕ (bias z) 65536 ≡ z
-down-bias (pos n) h = sub-ge (n + 65536) 65536 (omega arith) ∙ ap pos (omega arith)
-down-bias (negsuc n) h = let l = h .small in sub-lt (65535 - n) 65536 (omega arith) ∙ ap negsuc (omega arith)
+down-biased : (z : ℤ) → Coord z → subℕ (biased z) bias ≡ z
+down-biased (pos n) h = sub-ge (n + bias) bias (omega arith) ∙ ap pos (omega arith)
+down-biased (negsuc n) h = let l = h .small in sub-lt (bias - suc n) bias (omega arith) ∙ ap negsuc (omega arith)
 
-bias-down : (n : ℕ) → bias (subℕ n 65536) ≡ n
-bias-down n = by (decLt n 65536)
+biased-down : (n : ℕ) → biased (subℕ n bias) ≡ n
+biased-down n = by (decLt n bias)
   where
-    by : Dec (n < 65536) → bias (subℕ n 65536) ≡ n
-    by (yes h) = ap bias (sub-lt n 65536 h) ∙ (omega arith)
-    by (no h) = ap bias (sub-ge n 65536 (omega arith)) ∙ (omega arith)
+    by : Dec (n < bias) → biased (subℕ n bias) ≡ n
+    by (yes h) = ap biased (sub-lt n bias h) ∙ (omega arith)
+    by (no h) = ap biased (sub-ge n bias (omega arith)) ∙ (omega arith)
 
 pub dot-back : (d : Dot) → Coord (d .x) × Coord (d .y) → dotOf (spotOf d) ≡ d
-dot-back d h = λ i. record { x = down-bias (d .x) (h .0) i; y = down-bias (d .y) (h .1) i }
+dot-back d h = λ i. record { x = down-biased (d .x) (h .0) i; y = down-biased (d .y) (h .1) i }
 
 pub spot-back : (p : Spot) → spotOf (dotOf p) ≡ p
-spot-back p = λ i. record { x = bias-down (p .x) i; y = bias-down (p .y) i }
+spot-back p = λ i. record { x = biased-down (p .x) i; y = biased-down (p .y) i }
 
 -- ---- order and equality
 leb-iff : (a b c d : ℕ) → (a ≤ b → c ≤ d) → (c ≤ d → a ≤ b) → leb a b ≡ leb c d
@@ -75,48 +75,48 @@ leb-iff a b c d f g = same (leb a b) (leb c d) (λ t. le→leb c d (f (leb→le 
 eqb-iff : (a b c d : ℕ) → (a ≡ b → c ≡ d) → (c ≡ d → a ≡ b) → eqb a b ≡ eqb c d
 eqb-iff a b c d f g = same (eqb a b) (eqb c d) (λ t. eq→T c d (f (eqb→eq a b t))) (λ t. eq→T a b (g (eqb→eq c d t)))
 
-pub le-pos : (z : ℤ) (i : ℕ) → mag z < 65536 → leZ z (pos i) ≡ leb (bias z) (i + 65536)
-le-pos (pos n) i h = leb-iff n i (n + 65536) (i + 65536) (λ l. omega arith) (λ l. omega arith)
-le-pos (negsuc n) i h = sym (le-leb (65535 - n) (i + 65536) (omega arith))
+pub le-pos : (z : ℤ) (i : ℕ) → mag z < 65536 → leZ z (pos i) ≡ leb (biased z) (i + bias)
+le-pos (pos n) i h = leb-iff n i (n + bias) (i + bias) (λ l. omega arith) (λ l. omega arith)
+le-pos (negsuc n) i h = sym (le-leb (bias - suc n) (i + bias) (omega arith))
 
-pub pos-le : (z : ℤ) (i : ℕ) → mag z < 65536 → leZ (pos i) z ≡ leb (i + 65536) (bias z)
-pos-le (pos n) i h = leb-iff i n (i + 65536) (n + 65536) (λ l. omega arith) (λ l. omega arith)
-pos-le (negsuc n) i h = sym (lt-leb (i + 65536) (65535 - n) (omega arith))
+pub pos-le : (z : ℤ) (i : ℕ) → mag z < 65536 → leZ (pos i) z ≡ leb (i + bias) (biased z)
+pos-le (pos n) i h = leb-iff i n (i + bias) (n + bias) (λ l. omega arith) (λ l. omega arith)
+pos-le (negsuc n) i h = sym (lt-leb (i + bias) (bias - suc n) (omega arith))
 
-pub le-is : (a b : ℤ) → mag a < 65536 → mag b < 65536 → leZ a b ≡ leb (bias a) (bias b)
+pub le-is : (a b : ℤ) → mag a < 65536 → mag b < 65536 → leZ a b ≡ leb (biased a) (biased b)
 le-is a (pos b) h k = le-pos a b h
 le-is (pos a) (negsuc b) h k = pos-le (negsuc b) a k
-le-is (negsuc a) (negsuc b) h k = leb-iff b a (65535 - a) (65535 - b) (λ l. omega arith) (λ l. omega arith)
+le-is (negsuc a) (negsuc b) h k = leb-iff b a (bias - suc a) (bias - suc b) (λ l. omega arith) (λ l. omega arith)
 
--- a number that is given moved up
-pub sub-pos : (x i : ℕ) → eqZ (subℕ x 65536) (pos i) ≡ eqb x (i + 65536)
-sub-pos x i = by (decLt x 65536)
+-- a number that is given biased
+pub sub-pos : (x i : ℕ) → eqZ (subℕ x bias) (pos i) ≡ eqb x (i + bias)
+sub-pos x i = by (decLt x bias)
   where
-    by : Dec (x < 65536) → eqZ (subℕ x 65536) (pos i) ≡ eqb x (i + 65536)
-    by (yes h) = ap (λ (z : ℤ). eqZ z (pos i)) (sub-lt x 65536 h) ∙ sym (ne-eqb x (i + 65536) (omega arith))
+    by : Dec (x < bias) → eqZ (subℕ x bias) (pos i) ≡ eqb x (i + bias)
+    by (yes h) = ap (λ (z : ℤ). eqZ z (pos i)) (sub-lt x bias h) ∙ sym (ne-eqb x (i + bias) (omega arith))
     by (no h) =
-        ap (λ (z : ℤ). eqZ z (pos i)) (sub-ge x 65536 (omega arith))
-        ∙ eqb-iff (x - 65536) i x (i + 65536) (λ e. omega arith) (λ e. omega arith)
+        ap (λ (z : ℤ). eqZ z (pos i)) (sub-ge x bias (omega arith))
+        ∙ eqb-iff (x - bias) i x (i + bias) (λ e. omega arith) (λ e. omega arith)
 
 -- ---- sums and differences
-pub up : (z : ℤ) → mag z < 65536 → z +ℤ pos 65536 ≡ pos (bias z)
+pub up : (z : ℤ) → mag z < 65536 → z +ℤ pos bias ≡ pos (biased z)
 up (pos n) h = refl
-up (negsuc n) h = sub-ge 65536 (suc n) (omega arith) ∙ ap pos (omega arith)
+up (negsuc n) h = sub-ge bias (suc n) (omega arith) ∙ ap pos (omega arith)
 
-pub plus : (z : ℤ) (k : ℕ) → mag z < 65536 → z +ℤ pos k ≡ subℕ (bias z + k) 65536
-plus (pos n) k h = sym (sub-ge (n + 65536 + k) 65536 (omega arith) ∙ ap pos (omega arith))
-plus (negsuc n) k h = sub-same k (suc n) (65535 - n + k) 65536 (omega arith)
+pub plus : (z : ℤ) (k : ℕ) → mag z < 65536 → z +ℤ pos k ≡ subℕ (biased z + k) bias
+plus (pos n) k h = sym (sub-ge (n + bias + k) bias (omega arith) ∙ ap pos (omega arith))
+plus (negsuc n) k h = sub-same k (suc n) (bias - suc n + k) bias (omega arith)
 
-pub minus : (z : ℤ) (k : ℕ) → mag z < 65536 → k ≤ bias z → z -ℤ pos k ≡ subℕ (bias z - k) 65536
-minus (pos n) k h l = pos-minus n k ∙ sub-same n k (n + 65536 - k) 65536 (omega arith)
-minus (negsuc n) k h l = neg-minus n k ∙ sub-same 0 (suc n + k) (65535 - n - k) 65536 (omega arith)
+pub minus : (z : ℤ) (k : ℕ) → mag z < 65536 → k ≤ biased z → z -ℤ pos k ≡ subℕ (biased z - k) bias
+minus (pos n) k h l = pos-minus n k ∙ sub-same n k (n + bias - k) bias (omega arith)
+minus (negsuc n) k h l = neg-minus n k ∙ sub-same 0 (suc n + k) (bias - suc n - k) bias (omega arith)
 
-pub apart : (a b : ℤ) → mag a < 65536 → mag b < 65536 → b -ℤ a ≡ subℕ (bias b) (bias a)
-apart (pos a) (pos b) h k = pos-minus b a ∙ sub-same b a (b + 65536) (a + 65536) (omega arith)
+pub apart : (a b : ℤ) → mag a < 65536 → mag b < 65536 → b -ℤ a ≡ subℕ (biased b) (biased a)
+apart (pos a) (pos b) h k = pos-minus b a ∙ sub-same b a (b + bias) (a + bias) (omega arith)
 apart (negsuc a) (pos b) h k =
-    sym (sub-ge (b + suc a) 0 (omega arith) ∙ ap pos (omega arith)) ∙ sub-same (b + suc a) 0 (b + 65536) (65535 - a) (omega arith)
-apart (pos a) (negsuc b) h k = neg-minus b a ∙ sub-same 0 (suc b + a) (65535 - b) (a + 65536) (omega arith)
-apart (negsuc a) (negsuc b) h k = sub-same (suc a) (suc b) (65535 - b) (65535 - a) (omega arith)
+    sym (sub-ge (b + suc a) 0 (omega arith) ∙ ap pos (omega arith)) ∙ sub-same (b + suc a) 0 (b + bias) (bias - suc a) (omega arith)
+apart (pos a) (negsuc b) h k = neg-minus b a ∙ sub-same 0 (suc b + a) (bias - suc b) (a + bias) (omega arith)
+apart (negsuc a) (negsuc b) h k = sub-same (suc a) (suc b) (bias - suc b) (bias - suc a) (omega arith)
 
 abs-sub : (x y : ℕ) → natAbs (subℕ x y) ≡ (x - y) + (y - x)
 abs-sub x y = by (decLt x y)
@@ -125,5 +125,5 @@ abs-sub x y = by (decLt x y)
     by (yes h) = ap natAbs (sub-lt x y h) ∙ (omega arith)
     by (no h) = ap natAbs (sub-ge x y (omega arith)) ∙ (omega arith)
 
-pub gap-is : (a b : ℤ) → Coord a → Coord b → gap a b ≡ gapB (bias a) (bias b)
-gap-is a b h k = ap natAbs (apart a b (h .small) (k .small)) ∙ abs-sub (bias b) (bias a)
+pub gap-is : (a b : ℤ) → Coord a → Coord b → gap a b ≡ gapB (biased a) (biased b)
+gap-is a b h k = ap natAbs (apart a b (h .small) (k .small)) ∙ abs-sub (biased b) (biased a)

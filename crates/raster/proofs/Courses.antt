@@ -1,4 +1,4 @@
--- A line's course is its rule, moved up.
+-- A line's course is its rule, biased.
 use mathlib.Core.Path.{_≡_, refl, ap, ap₂, _∙_}
 use mathlib.Core.Bool.{Bool, true, false, cond, _&&_}
 use Prim.Native.Nat.{ℕ, suc, _+_, _-_, _<_, _≤_, max}
@@ -9,13 +9,13 @@ use lib.Dec.{leb, eqb}
 use borrow.Author.Tests.{leb-true, leb-false}
 use Rattle.raster.specs.declared.dots.Dot.{Dot}
 use Rattle.raster.specs.declared.line.Line.{Line}
-use Rattle.raster.specs.declared.moved.Spot.{Spot}
+use Rattle.raster.specs.declared.biased.Spot.{Spot}
 use Rattle.raster.specs.Shapes.{eqZ, dot, someBelow}
 use Rattle.raster.specs.Frame.{Coord}
 use Rattle.raster.specs.Line.{gap, side, dotFrom, line}
-use Rattle.raster.specs.Moved.{bias, spotOf, dotB, gapB, aside}
+use Rattle.raster.specs.Biased.{bias, biased, spotOf, dotB, gapB, aside}
 use Rattle.raster.specs.Courses.{alongB, acrossB, longB, shortB, flatB, risingB, courseFrom, courseBy, courseOf, half, offset, lineSpot, lineB, Fair}
-use Rattle.raster.proofs.Coordinates.{bias-lt, gap-is, le-is, plus, minus, apart, sub-ge, sub-lt, sub-pos}
+use Rattle.raster.proofs.Coordinates.{biased-lt, gap-is, le-is, plus, minus, apart, sub-ge, sub-lt, sub-pos}
 use Rattle.raster.proofs.SomeBelow.{some-same}
 use Rattle.raster.proofs.Sides.{side-up, side-down, offset-le}
 
@@ -44,12 +44,12 @@ ordered p q false false e h =
     let l = leb-false (p .y) (q .y) h in
     record { far = omega arith; wide = omega arith; less = omega arith }
 
--- ---- no dot leaves the numbers that are moved up
+-- ---- no dot leaves the biased numbers
 abbrev Low : Spot → Type 0
 Low p = (p .x < 131072) × (p .y < 131072)
 
 low : (d : Dot) → Coord (d .x) × Coord (d .y) → Low (spotOf d)
-low d h = (bias-lt (d .x) (h .0 .small), bias-lt (d .y) (h .1 .small))
+low d h = (biased-lt (d .x) (h .0 .small), biased-lt (d .y) (h .1 .small))
 
 either : (r : Bool) (p q : Spot) → Low p → Low q → Low (cond r p q)
 either true p q h k = h
@@ -80,32 +80,32 @@ fair d e hd he =
     let r = risingB t p q in
     fairly t (longB p q) (shortB p q) (cond r p q) (cond r q p) (either r p q (low d hd) (low e he)) (either r q p (low e he) (low d hd)) (ordered p q t r refl refl)
 
--- ---- a dot's coordinates, moved up
-along-at : (a : ℤ) (k i : ℕ) → Coord a → eqZ (a +ℤ pos k) (pos i) ≡ eqb (bias a + k) (i + 65536)
-along-at a k i h = ap (λ (z : ℤ). eqZ z (pos i)) (plus a k (h .small)) ∙ sub-pos (bias a + k) i
+-- ---- a dot's coordinates, biased
+along-at : (a : ℤ) (k i : ℕ) → Coord a → eqZ (a +ℤ pos k) (pos i) ≡ eqb (biased a + k) (i + bias)
+along-at a k i h = ap (λ (z : ℤ). eqZ z (pos i)) (plus a k (h .small)) ∙ sub-pos (biased a + k) i
 
-module _ (a b : ℤ) (n m k : ℕ) (ha : Coord a) (hb : Coord b) (e : m ≡ gapB (bias a) (bias b)) (g : m ≤ n) (l : k ≤ n) where
-  across-is : (u : Bool) → leb (bias a) (bias b) ≡ u → a +ℤ side n (b -ℤ a) k ≡ subℕ (aside u (bias a) (offset n m (half u n) k)) 65536
+module _ (a b : ℤ) (n m k : ℕ) (ha : Coord a) (hb : Coord b) (e : m ≡ gapB (biased a) (biased b)) (g : m ≤ n) (l : k ≤ n) where
+  across-is : (u : Bool) → leb (biased a) (biased b) ≡ u → a +ℤ side n (b -ℤ a) k ≡ subℕ (aside u (biased a) (offset n m (half u n) k)) bias
   across-is true h =
-      ap (λ (z : ℤ). a +ℤ side n z k) (apart a b (ha .small) (hb .small) ∙ sub-ge (bias b) (bias a) (leb-true (bias a) (bias b) h) ∙ ap pos d)
+      ap (λ (z : ℤ). a +ℤ side n z k) (apart a b (ha .small) (hb .small) ∙ sub-ge (biased b) (biased a) (leb-true (biased a) (biased b) h) ∙ ap pos d)
       ∙ ap (λ (z : ℤ). a +ℤ z) (side-up n m k)
       ∙ plus a (offset n m n k) (ha .small)
     where
-      d : bias b - bias a ≡ m
-      d = omega (arith, leb-true (bias a) (bias b) h, e)
+      d : biased b - biased a ≡ m
+      d = omega (arith, leb-true (biased a) (biased b) h, e)
   across-is false h =
-      ap (λ (z : ℤ). a +ℤ side n z k) (apart a b (ha .small) (hb .small) ∙ sub-lt (bias b) (bias a) (leb-false (bias a) (bias b) h))
-      ∙ ap (λ (z : ℤ). a +ℤ z) (side-down n (bias a - suc (bias b)) k (omega (arith, leb-false (bias a) (bias b) h, e)))
+      ap (λ (z : ℤ). a +ℤ side n z k) (apart a b (ha .small) (hb .small) ∙ sub-lt (biased b) (biased a) (leb-false (biased a) (biased b) h))
+      ∙ ap (λ (z : ℤ). a +ℤ z) (side-down n (biased a - suc (biased b)) k (omega (arith, leb-false (biased a) (biased b) h, e)))
       ∙ ap (λ (u : ℕ). a -ℤ pos (offset n u (n - 1) k)) d
-      ∙ minus a (offset n m (n - 1) k) (ha .small) (omega (arith, offset-le n m (n - 1) k (omega arith) l, leb-false (bias a) (bias b) h, e))
+      ∙ minus a (offset n m (n - 1) k) (ha .small) (omega (arith, offset-le n m (n - 1) k (omega arith) l, leb-false (biased a) (biased b) h, e))
     where
-      d : suc (bias a - suc (bias b)) ≡ m
-      d = omega (arith, leb-false (bias a) (bias b) h, e)
+      d : suc (biased a - suc (biased b)) ≡ m
+      d = omega (arith, leb-false (biased a) (biased b) h, e)
 
-  across-at : (i : ℕ) → let u = leb (bias a) (bias b) in eqZ (a +ℤ side n (b -ℤ a) k) (pos i) ≡ eqb (aside u (bias a) (offset n m (half u n) k)) (i + 65536)
+  across-at : (i : ℕ) → let u = leb (biased a) (biased b) in eqZ (a +ℤ side n (b -ℤ a) k) (pos i) ≡ eqb (aside u (biased a) (offset n m (half u n) k)) (i + bias)
   across-at i =
-      let u = leb (bias a) (bias b) in
-      ap (λ (z : ℤ). eqZ z (pos i)) (across-is u refl) ∙ sub-pos (aside u (bias a) (offset n m (half u n) k)) i
+      let u = leb (biased a) (biased b) in
+      ap (λ (z : ℤ). eqZ z (pos i)) (across-is u refl) ∙ sub-pos (aside u (biased a) (offset n m (half u n) k)) i
 
 -- dot k from p to q
 dot-at : (t : Bool) (n m k : ℕ) (p q : Dot) → Coord (p .x) × Coord (p .y) → Coord (q .x) × Coord (q .y) → Ordered t n m (spotOf p) (spotOf q) → k ≤ n
@@ -131,7 +131,7 @@ module _ (l : Line) (hp : Coord (l .from .x) × Coord (l .from .y)) (hq : Coord 
   at t true e h k b = dot-at t (longB p q) (shortB p q) k (l .from) (l .to) hp hq (ordered p q t true e h) b i j
   at t false e h k b = dot-at t (longB p q) (shortB p q) k (l .to) (l .from) hq hp (ordered p q t false e h) b i j
 
-  -- the ends' differences and order, moved up
+  -- the ends' differences and order, biased
   gx : gap (l .from .x) (l .to .x) ≡ gapB (p .x) (q .x)
   gx = gap-is (l .from .x) (l .to .x) (hp .0) (hq .0)
 

@@ -6,12 +6,12 @@ use Prim.Native.Nat.{ℕ, _/_, _%_, _<_}
 use native.Mathlib.Nat.{mod-lt, div-lt-iff-lt-mul}
 use lib.IntN.{pos}
 use lib.ListN.{length}
-use Rattle.raster.specs.declared.moved.Spot.{Spot}
+use Rattle.raster.specs.declared.biased.Spot.{Spot}
 use Rattle.raster.specs.declared.frame.Frame.{Frame}
 use Rattle.raster.specs.Shapes.{Shape, dot, all}
 use Rattle.raster.specs.Frame.{Fitting}
 use Rattle.raster.specs.Paint.{hit, paint}
-use Rattle.raster.specs.Moved.{dotOf, dotB}
+use Rattle.raster.specs.Biased.{dotOf, dotB}
 use Rattle.raster.specs.Rects.{pixels, inRect, rectOf}
 use Rattle.raster.proofs.Recolour.{agree}
 use Rattle.raster.proofs.Rectangles.{drawable-is}

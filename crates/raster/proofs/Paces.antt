@@ -8,7 +8,7 @@ use lib.Dec.{T, ltb}
 use borrow.Author.Tests.{ltb-true, ltb-false}
 use Rattle.raster.specs.declared.course.Course.{Course}
 use Rattle.raster.specs.declared.walk.Pace.{Pace}
-use Rattle.raster.specs.Moved.{aside}
+use Rattle.raster.specs.Biased.{bias, aside}
 use Rattle.raster.specs.Rects.{byteB, Placed}
 use Rattle.raster.specs.Courses.{offsetOf, lineSpot, Fair}
 use Rattle.raster.specs.Walks.{stride, nextPlace, Paced, Reached}
@@ -23,20 +23,20 @@ rows : (a b w : ℕ) → a ≡ b + 1 → a * w ≡ b * w + w
 rows a b w e = ap (λ (u : ℕ). u * w) e ∙ add-mul b 1 w ∙ ap (λ (u : ℕ). b * w + u) (one-mul w)
 
 module _ (w A : ℕ) where
-  byte-on : 65536 ≤ A → (t : Bool) (b : ℕ) → byteAt t w (A + 1) b ≡ byteAt t w A b + stride t w
+  byte-on : bias ≤ A → (t : Bool) (b : ℕ) → byteAt t w (A + 1) b ≡ byteAt t w A b + stride t w
   byte-on h true b = omega arith
-  byte-on h false b = omega (arith, rows (A + 1 - 65536) (A - 65536) w (omega arith))
+  byte-on h false b = omega (arith, rows (A + 1 - bias) (A - bias) w (omega arith))
 
-  byte-aside : (t up : Bool) (b q : ℕ) → (up ≡ false → q + 1 ≤ b) → 65536 ≤ aside up b q → 65536 ≤ aside up b (q + 1)
+  byte-aside : (t up : Bool) (b q : ℕ) → (up ≡ false → q + 1 ≤ b) → bias ≤ aside up b q → bias ≤ aside up b (q + 1)
       → byteAt t w A (aside up b (q + 1)) ≡ aside up (byteAt t w A (aside up b q)) (stride (not t) w)
-  byte-aside true true b q d x y = omega (arith, rows (b + (q + 1) - 65536) (b + q - 65536) w (omega arith))
-  byte-aside true false b q d x y = let h = d refl in omega (arith, rows (b - q - 65536) (b - (q + 1) - 65536) w (omega arith))
+  byte-aside true true b q d x y = omega (arith, rows (b + (q + 1) - bias) (b + q - bias) w (omega arith))
+  byte-aside true false b q d x y = let h = d refl in omega (arith, rows (b - q - bias) (b - (q + 1) - bias) w (omega arith))
   byte-aside false true b q d x y = omega arith
   byte-aside false false b q d x y = let h = d refl in omega arith
 
   -- there is a row above, or a column before
-  above : (t : Bool) (b : ℕ) → 65537 ≤ b → stride (not t) w ≤ byteAt t w A b
-  above true b h = omega (arith, rows (b - 65536) (b - 65537) w (omega arith))
+  above : (t : Bool) (b : ℕ) → bias + 1 ≤ b → stride (not t) w ≤ byteAt t w A b
+  above true b h = omega (arith, rows (b - bias) (b - (bias + 1)) w (omega arith))
   above false b h = omega arith
 
 pub stride-low : (t : Bool) (w : ℕ) → w ≤ 2048 → stride t w ≤ 2048
@@ -53,14 +53,14 @@ back at on beside both e h g b = omega arith
 -- ---- both, of a course
 module _ (w : ℕ) (l : Course) (p : Pace) (f : Fair l) (d : Paced w l p) (k e : ℕ) (h : k < l .n) (r : Reached l k (offsetOf l k) e)
     (here : Placed w (lineSpot l k)) (there : Placed w (lineSpot l (k + 1))) where
-  low : (t : Bool) (u v : ℕ) → 65536 ≤ cond t u v → 65536 ≤ cond t v u → (65536 ≤ u) × (65536 ≤ v)
+  low : (t : Bool) (u v : ℕ) → bias ≤ cond t u v → bias ≤ cond t v u → (bias ≤ u) × (bias ≤ v)
   low true u v x y = (x, y)
   low false u v x y = (y, x)
 
-  from : (65536 ≤ l .along + k) × (65536 ≤ aside (l .up) (l .across) (offsetOf l k))
+  from : (bias ≤ l .along + k) × (bias ≤ aside (l .up) (l .across) (offsetOf l k))
   from = low (l .flat) (l .along + k) (aside (l .up) (l .across) (offsetOf l k)) (here .x-from) (here .y-from)
 
-  to : (65536 ≤ l .along + (k + 1)) × (65536 ≤ aside (l .up) (l .across) (offsetOf l (k + 1)))
+  to : (bias ≤ l .along + (k + 1)) × (bias ≤ aside (l .up) (l .across) (offsetOf l (k + 1)))
   to = low (l .flat) (l .along + (k + 1)) (aside (l .up) (l .across) (offsetOf l (k + 1))) (there .x-from) (there .y-from)
 
   abbrev at : ℕ
@@ -93,15 +93,15 @@ module _ (w : ℕ) (l : Course) (p : Pace) (f : Fair l) (d : Paced w l p) (k e :
   askew q =
       ap (λ (a : ℕ). aside (l .up) a beside) on
       ∙ sym (byte-aside w (l .along + (k + 1)) (l .flat) (l .up) (l .across) (offsetOf l k) (deep q) (from .1)
-      (subst (λ (a : ℕ). 65536 ≤ aside (l .up) (l .across) a) (sym q) (to .1)))
+      (subst (λ (a : ℕ). bias ≤ aside (l .up) (l .across) a) (sym q) (to .1)))
       ∙ ap (λ (a : ℕ). byteAt (l .flat) w (l .along + (k + 1)) (aside (l .up) (l .across) a)) q
 
   may-fall : offsetOf l k + 1 ≡ offsetOf l (k + 1) → l .up ≡ false → beside ≤ at + p .on
   may-fall q u =
       subst (λ (a : ℕ). beside ≤ a) (sym on) (above w (l .along + (k + 1)) (l .flat) (aside (l .up) (l .across) (offsetOf l k))
-      (fall (l .up) u (subst (λ (a : ℕ). 65536 ≤ aside (l .up) (l .across) a) (sym q) (to .1)) (deep q u)))
+      (fall (l .up) u (subst (λ (a : ℕ). bias ≤ aside (l .up) (l .across) a) (sym q) (to .1)) (deep q u)))
     where
-      fall : (up : Bool) → up ≡ false → 65536 ≤ aside up (l .across) (offsetOf l k + 1) → offsetOf l k + 1 ≤ l .across → 65537 ≤ aside up (l .across) (offsetOf l k)
+      fall : (up : Bool) → up ≡ false → bias ≤ aside up (l .across) (offsetOf l k + 1) → offsetOf l k + 1 ≤ l .across → bias + 1 ≤ aside up (l .across) (offsetOf l k)
       fall true u x y = absurd (subst T u tt)
       fall false u x y = omega arith
 

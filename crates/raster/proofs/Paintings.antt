@@ -9,6 +9,7 @@ use lib.Signed.{leZ, ltZ, _<ℤ_, <ℤ-≤ℤ-trans, clashℤ}
 use lib.Dec.{T, eqb}
 use lib.ListN.{length, getD}
 use lib.Seq.{ext-getD}
+use Rattle.raster.specs.declared.frame.Bounds.{Bounds}
 use Rattle.raster.specs.declared.frame.Window.{Window}
 use Rattle.raster.specs.declared.frame.Frame.{Frame}
 use Rattle.raster.specs.Shapes.{Shape}
@@ -68,6 +69,12 @@ none-within : (a b z : ℤ) → T (ltZ b a) → T (within a b z) → ⊥
 none-within a b z l t =
     let past : b <ℤ z = <ℤ-≤ℤ-trans {b = a} (record { lt = l }) (record { le = left (leZ a z) (leZ z b) t }) in
     clashℤ past (record { le = right (leZ a z) (leZ z b) t })
+
+-- the origin is (0, 0): modes 1 and 2 ask the same
+pub modes-agree : (b : Bounds) (w : Window) (x y : ℤ)
+    → drawable (record { bounds = b; mode = 1; window = w }) x y ≡ drawable (record { bounds = b; mode = 2; window = w }) x y
+unfolding drawable
+modes-agree b w x y = refl
 
 -- it is empty where x0 is above x1, or y0 above y1
 pub empty-window : (w : Window) (x y : ℤ) → T (ltZ (w .x1) (w .x0) || ltZ (w .y1) (w .y0)) → T (inWindow w x y) → ⊥

@@ -9,6 +9,7 @@ use lib.Dec.{T, leb, ltb, eqb, leb→le, le→leb, ltb→lt, lt→ltb, eqb→eq,
 use lib.ListN.{set}
 use Rattle.raster.specs.declared.rect.Rect.{Rect}
 use Rattle.raster.specs.Paint.{recolour}
+use Rattle.raster.specs.Biased.{bias}
 use Rattle.raster.specs.Rects.{pixels, inRect, Room, Seen}
 use Rattle.raster.specs.Parts.{between, rowPart}
 use Rattle.raster.proofs.Tests.{same, both, left, right, and-or, lt-next}
@@ -43,7 +44,7 @@ every-byte a i e c s h h′ =
 -- a rectangle with no column or no row has no pixel
 pub no-pixel : (w : ℕ) (r : Rect) (c : ℕ) (s : List ℕ) → ((r .l ≤ r .r) × (r .t ≤ r .b) → ⊥) → s ≡ pixels w (inRect r) c s
 no-pixel w r c s n =
-    none (λ k. inRect r (k % w) (k / w)) c s (λ k _ t. let p = inside-is r (k % w + 65536) (k / w + 65536) t in n (omega arith, omega arith))
+    none (λ k. inRect r (k % w) (k / w)) c s (λ k _ t. let p = inside-is r (k % w + bias) (k / w + bias) t in n (omega arith, omega arith))
 
 -- ---- a part of a row
 module _ (w y x0 x1 : ℕ) (s : List ℕ) (h : Room w (rowPart y x0 x1) s) (l : x0 ≤ x1) where
@@ -51,35 +52,35 @@ module _ (w y x0 x1 : ℕ) (s : List ℕ) (h : Room w (rowPart y x0 x1) s) (l : 
   pub last-seen : Seen w (record { x = x1; y = y }) s
   last-seen = seen w (rowPart y x0 x1) (record { x = x1; y = y }) s h (is-inside (rowPart y x0 x1) x1 y l (le-refl x1) (le-refl y) (le-refl y))
 
-  pub as-bytes : (c : ℕ) → recolour (between ((y - 65536) * w + (x0 - 65536)) ((y - 65536) * w + (x1 - 65535))) c s ≡ pixels w (inRect (rowPart y x0 x1)) c s
+  pub as-bytes : (c : ℕ) → recolour (between ((y - bias) * w + (x0 - bias)) ((y - bias) * w + (x1 + 1 - bias))) c s ≡ pixels w (inRect (rowPart y x0 x1)) c s
   as-bytes c =
       agree (between from past) (λ k. inRect (rowPart y x0 x1) (k % w) (k / w)) c s
       (λ k _. same (between from past k) (inRect (rowPart y x0 x1) (k % w) (k / w)) (to k) (back k))
     where
       at : ℕ
-      at = (y - 65536) * w
+      at = (y - bias) * w
 
       from : ℕ
-      from = (y - 65536) * w + (x0 - 65536)
+      from = (y - bias) * w + (x0 - bias)
 
       past : ℕ
-      past = (y - 65536) * w + (x1 - 65535)
+      past = (y - bias) * w + (x1 + 1 - bias)
 
       to : (k : ℕ) → T (between from past k) → T (inRect (rowPart y x0 x1) (k % w) (k / w))
       to k t =
           let p = between-is from past k t in
           let q : k ≡ at + (k - at) = omega arith in
           let n : k - at < w = omega (arith, h .from-left, h .to-right) in
-          let i : k % w ≡ k - at = ap (λ (b : ℕ). b % w) q ∙ column w (k - at) (y - 65536) n in
-          let j : k / w ≡ y - 65536 = ap (λ (b : ℕ). b / w) q ∙ row w (k - at) (y - 65536) n in
-          is-inside (rowPart y x0 x1) (k % w + 65536) (k / w + 65536)
+          let i : k % w ≡ k - at = ap (λ (b : ℕ). b % w) q ∙ column w (k - at) (y - bias) n in
+          let j : k / w ≡ y - bias = ap (λ (b : ℕ). b / w) q ∙ row w (k - at) (y - bias) n in
+          is-inside (rowPart y x0 x1) (k % w + bias) (k / w + bias)
           (omega (arith, i, h .from-left)) (omega (arith, i, h .from-left)) (omega (arith, j, h .from-top)) (omega (arith, j, h .from-top))
 
       back : (k : ℕ) → T (inRect (rowPart y x0 x1) (k % w) (k / w)) → T (between from past k)
       back k t =
-          let p = inside-is (rowPart y x0 x1) (k % w + 65536) (k / w + 65536) t in
-          let j : k / w ≡ y - 65536 = omega arith in
-          let b : (y - 65536) * w + k % w ≡ k = subst (λ (m : ℕ). m * w + k % w ≡ k) j (byte w k) in
+          let p = inside-is (rowPart y x0 x1) (k % w + bias) (k / w + bias) t in
+          let j : k / w ≡ y - bias = omega arith in
+          let b : (y - bias) * w + k % w ≡ k = subst (λ (m : ℕ). m * w + k % w ≡ k) j (byte w k) in
           is-between from past k (omega (arith, h .from-left)) (omega (arith, h .from-left))
 
 -- a row of r is a part that has room
@@ -94,38 +95,38 @@ row-room w r y s h k l =
       down = omega (arith, h .down, mul-le-mul-right w (lower (r .b) y l));
     }
   where
-    lower : (b y : ℕ) → y ≤ b → y - 65535 ≤ b - 65535
+    lower : (b y : ℕ) → y ≤ b → y + 1 - bias ≤ b + 1 - bias
     lower b y l = omega arith
 
 -- ---- rows as wide as the screen
 module _ (w : ℕ) (r : Rect) (s : List ℕ) (h : Room w r s) where
-  pub rows-small : r .t ≤ r .b → ((r .t - 65536) * w ≤ 2048 * 2048) × ((r .b - 65535) * w ≤ 2048 * 2048)
+  pub rows-small : r .t ≤ r .b → ((r .t - bias) * w ≤ 2048 * 2048) × ((r .b + 1 - bias) * w ≤ 2048 * 2048)
   rows-small l =
-      let t : r .t - 65536 ≤ 2048 = omega (arith, h .to-bottom) in
-      let b : r .b - 65535 ≤ 2048 = omega (arith, h .to-bottom) in
+      let t : r .t - bias ≤ 2048 = omega (arith, h .to-bottom) in
+      let b : r .b + 1 - bias ≤ 2048 = omega (arith, h .to-bottom) in
       (mul-le-mul t (h .narrow), mul-le-mul b (h .narrow))
 
-  pub rows-as-bytes : 0 < w → r .l ≡ 65536 → r .r + 1 ≡ w + 65536 → (c : ℕ)
-      → recolour (between ((r .t - 65536) * w) ((r .b - 65535) * w)) c s ≡ pixels w (inRect r) c s
+  pub rows-as-bytes : 0 < w → r .l ≡ bias → r .r + 1 ≡ w + bias → (c : ℕ)
+      → recolour (between ((r .t - bias) * w) ((r .b + 1 - bias) * w)) c s ≡ pixels w (inRect r) c s
   rows-as-bytes hw hl hr c =
       agree (between from past) (λ k. inRect r (k % w) (k / w)) c s
       (λ k _. same (between from past k) (inRect r (k % w) (k / w)) (to k) (back k))
     where
       from : ℕ
-      from = (r .t - 65536) * w
+      from = (r .t - bias) * w
 
       past : ℕ
-      past = (r .b - 65535) * w
+      past = (r .b + 1 - bias) * w
 
       to : (k : ℕ) → T (between from past k) → T (inRect r (k % w) (k / w))
       to k t =
           let p = between-is from past k t in
           let n : k % w < w = mod-lt k hw in
-          let above : k / w < r .b - 65535 = div-lt-iff-lt-mul hw .1 (p .1) in
-          let below : r .t - 65536 ≤ k / w = le-div-iff-mul-le hw .1 (p .0) in
-          is-inside r (k % w + 65536) (k / w + 65536) (omega arith) (omega arith) (omega (arith, h .from-top)) (omega arith)
+          let above : k / w < r .b + 1 - bias = div-lt-iff-lt-mul hw .1 (p .1) in
+          let below : r .t - bias ≤ k / w = le-div-iff-mul-le hw .1 (p .0) in
+          is-inside r (k % w + bias) (k / w + bias) (omega arith) (omega arith) (omega (arith, h .from-top)) (omega arith)
 
       back : (k : ℕ) → T (inRect r (k % w) (k / w)) → T (between from past k)
       back k t =
-          let p = inside-is r (k % w + 65536) (k / w + 65536) t in
+          let p = inside-is r (k % w + bias) (k / w + bias) t in
           is-between from past k (le-div-iff-mul-le hw .0 (omega arith)) (div-lt-iff-lt-mul hw .0 (omega arith))

@@ -8,9 +8,9 @@ use native.Mathlib.Nat.{mul-add-mod-self-right, mul-add-div-right, mod-eq-of-lt,
 use native.Mathlib.Nat.{mul-le-mul-right, mul-le-mul, add-mul, one-mul}
 use lib.Dec.{T, leb, eqb, leb→le, le→leb, eqb→eq}
 use lib.ListN.{length, set}
-use Rattle.raster.specs.declared.moved.Spot.{Spot}
+use Rattle.raster.specs.declared.biased.Spot.{Spot}
 use Rattle.raster.specs.declared.rect.Rect.{Rect}
-use Rattle.raster.specs.Moved.{dotB}
+use Rattle.raster.specs.Biased.{bias, dotB}
 use Rattle.raster.specs.Rects.{pixels, byteB, insideB, inRect, Room, Placed, Seen}
 use Rattle.raster.proofs.Tests.{same, both, left, right, four, quad, eq→T}
 use Rattle.raster.proofs.Recolour.{one, none, agree}
@@ -38,11 +38,11 @@ module _ (r : Rect) (x y : ℕ) where
 
 -- ---- a dot and its pixel
 module _ (p : Spot) (i j : ℕ) (t : T (dotB p i j)) where
-  -- the dot of a pixel is the pixel moved up
-  at-pixel : (p .x ≡ i + 65536) × (p .y ≡ j + 65536)
+  -- the dot of a pixel is the pixel, biased
+  at-pixel : (p .x ≡ i + bias) × (p .y ≡ j + bias)
   at-pixel =
-      let x = eqb→eq (p .x) (i + 65536) (left (eqb (p .x) (i + 65536)) (eqb (p .y) (j + 65536)) t) in
-      let y = eqb→eq (p .y) (j + 65536) (right (eqb (p .x) (i + 65536)) (eqb (p .y) (j + 65536)) t) in
+      let x = eqb→eq (p .x) (i + bias) (left (eqb (p .x) (i + bias)) (eqb (p .y) (j + bias)) t) in
+      let y = eqb→eq (p .y) (j + bias) (right (eqb (p .x) (i + bias)) (eqb (p .y) (j + bias)) t) in
       (x, y)
 
   -- the pixel is within r where the dot is
@@ -54,27 +54,27 @@ pub stored : (w : ℕ) (p : Spot) (c : ℕ) (s : List ℕ) → Placed w p → se
 stored w p c s q =
     one (λ k. dotB p (k % w) (k / w)) c s (byteB w p)
     (subst₂ (λ (i j : ℕ). T (dotB p i j)) (sym (column w x y (q .x-to))) (sym (row w x y (q .x-to)))
-    (both (eqb (p .x) (x + 65536)) (eqb (p .y) (y + 65536)) (eq→T (p .x) (x + 65536) (omega (arith, q .x-from))) (eq→T (p .y) (y + 65536) (omega (arith, q .y-from)))))
+    (both (eqb (p .x) (x + bias)) (eqb (p .y) (y + bias)) (eq→T (p .x) (x + bias) (omega (arith, q .x-from))) (eq→T (p .y) (y + bias) (omega (arith, q .y-from)))))
     (λ k l u.
     let e = at-pixel p (k % w) (k / w) u in
-    let i : k % w ≡ p .x - 65536 = omega arith in
-    let j : k / w ≡ p .y - 65536 = omega arith in
+    let i : k % w ≡ p .x - bias = omega arith in
+    let j : k / w ≡ p .y - bias = omega arith in
     sym (byte w k) ∙ ap₂ (λ (a b : ℕ). a * w + b) j i)
   where
     x : ℕ
-    x = p .x - 65536
+    x = p .x - bias
 
     y : ℕ
-    y = p .y - 65536
+    y = p .y - bias
 
 -- ---- a dot within a rectangle that has room in the screen
 module _ (w : ℕ) (r : Rect) (p : Spot) where
   pub seen : (s : List ℕ) → Room w r s → T (insideB r (p .x) (p .y)) → Seen w p s
   seen s h t =
       let q = inside-is r (p .x) (p .y) t in
-      let high : p .y - 65536 ≤ 2048 = omega (arith, h .to-bottom) in
-      let whole : (p .y - 65536 + 1) * w ≤ (r .b - 65535) * w = mul-le-mul-right w (omega (arith, h .from-top)) in
-      let index : byteB w p < length s = omega (arith, h .from-left, h .to-right, h .down, add-mul (p .y - 65536) 1 w, one-mul w) in (
+      let high : p .y - bias ≤ 2048 = omega (arith, h .to-bottom) in
+      let whole : (p .y - bias + 1) * w ≤ (r .b + 1 - bias) * w = mul-le-mul-right w (omega (arith, h .from-top)) in
+      let index : byteB w p < length s = omega (arith, h .from-left, h .to-right, h .down, add-mul (p .y - bias) 1 w, one-mul w) in (
         record {
           x-from = omega (arith, h .from-left);
           y-from = omega (arith, h .from-top);

@@ -14,7 +14,7 @@ use Rattle.raster.specs.declared.frame.Window.{Window}
 use Rattle.raster.specs.declared.frame.Frame.{Frame}
 use Rattle.raster.specs.declared.rect.Rect.{Rect}
 use Rattle.raster.specs.Frame.{within, onScreen, inPane, inWindow, drawable, Coord, Sound, Sane, Fitting}
-use Rattle.raster.specs.Moved.{bias}
+use Rattle.raster.specs.Biased.{bias, biased}
 use Rattle.raster.specs.Rects.{insideB, inRect, paneRect, windowRect, overlapOf, rectBy, rectOf, Room}
 use Rattle.raster.proofs.Tests.{same, both, left, right, four, quad, and-true, and-swap}
 use Rattle.raster.proofs.Coordinates.{le-pos, pos-le}
@@ -60,7 +60,7 @@ module _ (f : Frame) (x y : ℕ) where
   rect-is = by-mode (eqb (f .mode) 0)
 
 -- ---- the pane's points and the window's
-within-is : (a b : ℤ) (i : ℕ) → Coord a → Coord b → within a b (pos i) ≡ (leb (bias a) (i + 65536) && leb (i + 65536) (bias b))
+within-is : (a b : ℤ) (i : ℕ) → Coord a → Coord b → within a b (pos i) ≡ (leb (biased a) (i + bias) && leb (i + bias) (biased b))
 within-is a b i h k = ap₂ (λ (t u : Bool). t && u) (le-pos a i (h .small)) (pos-le b i (k .small))
 
 module _ (i j : ℕ) where
@@ -84,7 +84,7 @@ drawable-is f h i j k l =
     let v = h .window in
     ap (λ (t : Bool). t && inPane (f .bounds) (pos i) (pos j) && (eqb (f .mode) 0 || inWindow (f .window) (pos i) (pos j))) (on-screen (f .bounds) i j k l)
     ∙ ap₂ (λ (t u : Bool). t && (eqb (f .mode) 0 || u)) (pane-is i j (f .bounds) (h .bounds)) (window-is i j (f .window) (v .0) (v .1) (v .2) (v .3))
-    ∙ rect-is f (i + 65536) (j + 65536)
+    ∙ rect-is f (i + bias) (j + bias)
 
 -- ---- room
 pub room : (f : Frame) (s : List ℕ) → Fitting f s → Room (f .bounds .width) (rectOf f) s
@@ -104,7 +104,7 @@ room f s h = by (eqb (f .mode) 0)
           from-top = omega arith;
           to-right = omega (arith, v);
           to-bottom = omega (arith, v);
-          down = rows (f .bounds .pane .bottom + 65536 - 65535) (omega (arith, v));
+          down = rows (f .bounds .pane .bottom + bias + 1 - bias) (omega (arith, v));
         }
     by false =
         record {
@@ -113,7 +113,7 @@ room f s h = by (eqb (f .mode) 0)
           from-top = omega arith;
           to-right = omega (arith, v);
           to-bottom = omega (arith, v);
-          down = rows (min (f .bounds .pane .bottom + 65536) (bias (f .window .y1)) - 65535) (omega (arith, v));
+          down = rows (min (f .bounds .pane .bottom + bias) (biased (f .window .y1)) + 1 - bias) (omega (arith, v));
         }
 
 pub same-room : (w : ℕ) (r : Rect) (s t : List ℕ) → length t ≡ length s → Room w r s → Room w r t

@@ -9,7 +9,7 @@ use Rattle.raster.specs.declared.course.Course.{Course}
 use Rattle.raster.specs.declared.rect.Rect.{Rect}
 use Rattle.raster.specs.declared.span.Span.{Span}
 use Rattle.raster.specs.Shapes.{someBelow}
-use Rattle.raster.specs.Moved.{dotB, aside}
+use Rattle.raster.specs.Biased.{dotB, aside}
 use Rattle.raster.specs.Rects.{insideB, inRect}
 use Rattle.raster.specs.Courses.{alongB, acrossB, half, offset, offsetOf, lineSpot, lineB, Fair}
 use Rattle.raster.specs.Spans.{spanOf, coversB, lowB, highB, alongSpan, acrossSpan, First, DotsWithin}

@@ -10,7 +10,7 @@ use lib.ListN.{set}
 use borrow.Author.Tests.{le-leb, lt-leb}
 use Rattle.raster.specs.declared.course.Course.{Course}
 use Rattle.raster.specs.Shapes.{someBelow}
-use Rattle.raster.specs.Moved.{dotB}
+use Rattle.raster.specs.Biased.{dotB}
 use Rattle.raster.specs.Rects.{pixels, byteB, Placed}
 use Rattle.raster.specs.Courses.{half, offset, lineSpot}
 use Rattle.raster.specs.Walks.{stretchB, Reached}

@@ -1,14 +1,14 @@
--- A brush: six numbers that say what is to be painted. 0 the kind of shape, 1 the colour, 2 and 3 a point, 4 and 5 another, moved up.
+-- A brush: six numbers that say what is to be painted. 0 the kind of shape, 1 the colour, 2 and 3 a point, 4 and 5 another, biased.
 use mathlib.Core.Bool.{false, cond}
 use mathlib.Core.Path.{_≡_}
 use mathlib.Core.List.{List}
 use Prim.Native.Nat.{ℕ, _%_}
 use lib.Dec.{eqb}
 use lib.ListN.{length, getD}
-use Rattle.raster.specs.declared.moved.Spot.{Spot}
+use Rattle.raster.specs.declared.biased.Spot.{Spot}
 use Rattle.raster.specs.Shapes.{Shape, dot, all}
 use Rattle.raster.specs.Line.{line}
-use Rattle.raster.specs.Moved.{dotOf, lineOf, NearB}
+use Rattle.raster.specs.Biased.{dotOf, lineOf, NearB}
 
 abbrev pub kind : List ℕ → ℕ
 kind p = getD p 0 0

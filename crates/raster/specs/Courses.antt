@@ -1,12 +1,12 @@
--- A line's course, moved up: from its end with the smaller coordinate on the long axis, and each dot's place on it.
+-- A line's course, biased: from its end with the smaller coordinate on the long axis, and each dot's place on it.
 use mathlib.Core.Bool.{Bool, false, cond}
 use mathlib.Core.Path.{_≡_}
 use Prim.Native.Nat.{ℕ, suc, _+_, _-_, _*_, _/_, _≤_, _<_, min, max}
 use lib.Dec.{leb}
 use Rattle.raster.specs.declared.course.Course.{Course}
-use Rattle.raster.specs.declared.moved.Spot.{Spot}
+use Rattle.raster.specs.declared.biased.Spot.{Spot}
 use Rattle.raster.specs.Shapes.{someBelow}
-use Rattle.raster.specs.Moved.{dotB, gapB, aside}
+use Rattle.raster.specs.Biased.{dotB, gapB, aside}
 
 -- the coordinate on the long axis, and on the other, where t says that x is the long axis
 abbrev pub alongB : Bool → Spot → ℕ
@@ -39,7 +39,7 @@ courseBy t r p q = courseFrom t (longB p q) (shortB p q) (cond r p q) (cond r q 
 abbrev pub courseOf : Spot → Spot → Course
 courseOf p q = courseBy (flatB p q) (risingB (flatB p q) p q) p q
 
--- no dot leaves the numbers that are moved up
+-- no dot leaves the biased numbers
 pub record Fair (l : Course) : Type 0 where
   pub short : l .m ≤ l .n
   pub far : l .along + l .n < 131072

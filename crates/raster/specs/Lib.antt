@@ -6,7 +6,7 @@ pub mod Paint
 pub mod Line
 pub mod Stores
 -- What only functions inside the box promise:
-pub mod Moved
+pub mod Biased
 pub mod Brush
 pub mod Rects
 pub mod Parts

@@ -1,4 +1,4 @@
--- Rectangles of points that are moved up, both ends inside: none where l is above r, or t above b.
+-- Rectangles of biased points, both ends inside: none where l is above r, or t above b.
 use mathlib.Core.Bool.{Bool, cond, _&&_}
 use mathlib.Core.List.{List}
 use Prim.Native.Nat.{ℕ, _+_, _-_, _*_, _/_, _%_, _≤_, _<_, min, max}
@@ -7,10 +7,10 @@ use lib.ListN.{length}
 use Rattle.raster.specs.declared.frame.Pane.{Pane}
 use Rattle.raster.specs.declared.frame.Window.{Window}
 use Rattle.raster.specs.declared.frame.Frame.{Frame}
-use Rattle.raster.specs.declared.moved.Spot.{Spot}
+use Rattle.raster.specs.declared.biased.Spot.{Spot}
 use Rattle.raster.specs.declared.rect.Rect.{Rect}
 use Rattle.raster.specs.Paint.{recolour}
-use Rattle.raster.specs.Moved.{bias}
+use Rattle.raster.specs.Biased.{bias, biased}
 
 -- the pixels of S, by column and row, get the colour c on a screen w wide
 abbrev pub pixels : ℕ → (ℕ → ℕ → Bool) → ℕ → List ℕ → List ℕ
@@ -21,17 +21,17 @@ insideB r x y = leb (r .l) x && leb x (r .r) && (leb (r .t) y && leb y (r .b))
 
 -- the pixel in column i of row j is within r
 abbrev pub inRect : Rect → ℕ → ℕ → Bool
-inRect r i j = insideB r (i + 65536) (j + 65536)
+inRect r i j = insideB r (i + bias) (j + bias)
 
 -- the byte of the dot p on a screen w wide
 abbrev pub byteB : ℕ → Spot → ℕ
-byteB w p = (p .y - 65536) * w + (p .x - 65536)
+byteB w p = (p .y - bias) * w + (p .x - bias)
 
 abbrev pub paneRect : Pane → Rect
-paneRect p = record { l = p .left + 65536; t = p .top + 65536; r = p .right + 65536; b = p .bottom + 65536 }
+paneRect p = record { l = p .left + bias; t = p .top + bias; r = p .right + bias; b = p .bottom + bias }
 
 abbrev pub windowRect : Window → Rect
-windowRect w = record { l = bias (w .x0); t = bias (w .y0); r = bias (w .x1); b = bias (w .y1) }
+windowRect w = record { l = biased (w .x0); t = biased (w .y0); r = biased (w .x1); b = biased (w .y1) }
 
 abbrev pub overlapOf : Rect → Rect → Rect
 overlapOf p q = record { l = max (p .l) (q .l); t = max (p .t) (q .t); r = min (p .r) (q .r); b = min (p .b) (q .b) }
@@ -47,19 +47,19 @@ rectOf f = rectBy (eqb (f .mode) 0) f
 -- the rectangle lies within a screen w wide whose bytes are s
 pub record Room (w : ℕ) (r : Rect) (s : List ℕ) : Type 0 where
   pub narrow : w ≤ 2048
-  pub from-left : 65536 ≤ r .l
-  pub from-top : 65536 ≤ r .t
-  pub to-right : r .r < w + 65536
-  pub to-bottom : r .b < 2048 + 65536
-  pub down : (r .b - 65535) * w ≤ length s
+  pub from-left : bias ≤ r .l
+  pub from-top : bias ≤ r .t
+  pub to-right : r .r < w + bias
+  pub to-bottom : r .b < 2048 + bias
+  pub down : (r .b + 1 - bias) * w ≤ length s
 
 -- the dot p has a byte on a screen w wide
 pub record Placed (w : ℕ) (p : Spot) : Type 0 where
-  pub x-from : 65536 ≤ p .x
-  pub y-from : 65536 ≤ p .y
-  pub x-to : p .x - 65536 < w
+  pub x-from : bias ≤ p .x
+  pub y-from : bias ≤ p .y
+  pub x-to : p .x - bias < w
   pub narrow : w ≤ 2048
-  pub rows : (p .y - 65536) * w ≤ 2048 * 2048
+  pub rows : (p .y - bias) * w ≤ 2048 * 2048
 
 -- the dot p lies within a screen w wide whose bytes are s
 abbrev pub Seen : ℕ → Spot → List ℕ → Type 0

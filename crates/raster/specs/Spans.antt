@@ -3,7 +3,7 @@ use mathlib.Core.Bool.{Bool, true, cond, _&&_}
 use Prim.Native.Nat.{ℕ, _+_, _-_, _<_, _≤_}
 use lib.Dec.{T, ltb, eqb}
 use Rattle.raster.specs.declared.course.Course.{Course}
-use Rattle.raster.specs.declared.moved.Spot.{Spot}
+use Rattle.raster.specs.declared.biased.Spot.{Spot}
 use Rattle.raster.specs.declared.rect.Rect.{Rect}
 use Rattle.raster.specs.declared.span.Span.{Span}
 use Rattle.raster.specs.Rects.{insideB}

@@ -8,7 +8,7 @@ use Rattle.raster.specs.declared.course.Course.{Course}
 use Rattle.raster.specs.declared.walk.Pace.{Pace}
 use Rattle.raster.specs.declared.walk.Place.{Place}
 use Rattle.raster.specs.Shapes.{someBelow}
-use Rattle.raster.specs.Moved.{dotB}
+use Rattle.raster.specs.Biased.{dotB}
 use Rattle.raster.specs.Rects.{Seen}
 use Rattle.raster.specs.Courses.{half, offsetOf, lineSpot}
 

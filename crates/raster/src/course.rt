@@ -1,10 +1,10 @@
 // A line's course: from its end with the smaller coordinate on the long axis, along that axis and aside.
-use crate::moved::Spot;
-use crate::moved::aside_of;
-use crate::moved::gap_of;
-use crate::moved::larger;
-use crate::moved::less;
-use crate::moved::smaller;
+use crate::biased::Spot;
+use crate::biased::aside_of;
+use crate::biased::gap_of;
+use crate::biased::larger;
+use crate::biased::less;
+use crate::biased::smaller;
 ghost use mathlib.Core.Path.{_≡_};
 ghost use mathlib.Core.Bool.{cond};
 ghost use Prim.Native.Nat.{_≤_};

@@ -1,12 +1,12 @@
 // One dot.
+use crate::biased::Spot;
 use crate::frame::Frame;
-use crate::moved::Spot;
 use crate::rect::store;
 use crate::rect::visible;
 ghost use mathlib.Core.Path.{_≡_};
 ghost use Rattle.raster.specs.Shapes.{dot};
 ghost use Rattle.raster.specs.Frame.{Fitting};
-ghost use Rattle.raster.specs.Moved.{dotOf};
+ghost use Rattle.raster.specs.Biased.{dotOf};
 ghost use Rattle.raster.specs.Paint.{paint};
 
 #[repr(C)]

@@ -1,4 +1,5 @@
 // Every drawable dot: the drawable rectangle first, and then its rows.
+use crate::biased::BIAS;
 use crate::frame::Frame;
 use crate::part::row_part;
 use crate::part::whole_rows;
@@ -30,8 +31,8 @@ fn fill_rect(screen: &mut [u8], w: u32, r: Rect, c: u8)
     requires { ⌜ 0 < w ⌝ }
     ensures { λ _. ⌜ now (screen .exit) ≡ pixels w (inRect r) c (now (screen .entry)) ⌝ }
 {
-    if r.l == 65536 {
-        if r.r + 1 == w + 65536 {
+    if r.l == BIAS {
+        if r.r + 1 == w + BIAS {
             whole_rows(screen, w, r, c);
             return;
         }

@@ -4,7 +4,7 @@ pub mod brush; // what is to be painted, and the painting of it
 pub mod dots; // one dot
 pub mod line; // a line's dots
 mod fill; // every drawable dot
-mod moved; // coordinates as unsigned numbers
+mod biased; // coordinates as unsigned numbers
 mod course; // a line from its start along the long axis
 mod rect; // the drawable columns and rows
 mod span; // the dots of a course within a rectangle

@@ -1,8 +1,8 @@
 // A line's dots: only those that are drawable are walked.
+use crate::biased::Spot;
 use crate::course::course_of;
 use crate::dots::Dot;
 use crate::frame::Frame;
-use crate::moved::Spot;
 use crate::rect::rect_of;
 use crate::span::dots_within;
 use crate::walk::slope_at;
@@ -11,7 +11,7 @@ ghost use mathlib.Core.Path.{_≡_};
 ghost use Rattle.raster.specs.Frame.{Fitting};
 ghost use Rattle.raster.specs.Paint.{paint};
 ghost use Rattle.raster.specs.Line.{line};
-ghost use Rattle.raster.specs.Moved.{lineOf, NearB};
+ghost use Rattle.raster.specs.Biased.{lineOf, NearB};
 
 #[repr(C)]
 pub struct Line {

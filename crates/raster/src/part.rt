@@ -1,9 +1,11 @@
 // Parts of the screen whose bytes lie side by side: painted with no test for each dot.
+use crate::biased::BIAS;
 use crate::rect::Rect;
 ghost use mathlib.Core.Path.{_≡_};
 ghost use Prim.Native.Nat.{_+_, _<_, _≤_};
 ghost use lib.ListN.{length};
 ghost use Rattle.raster.specs.Paint.{recolour};
+ghost use Rattle.raster.specs.Biased.{bias};
 ghost use Rattle.raster.specs.Rects.{pixels, inRect, Room};
 ghost use Rattle.raster.specs.Parts.{between, rowPart};
 
@@ -25,11 +27,11 @@ pub fn row_part(screen: &mut [u8], w: u32, y: u32, x0: u32, x1: u32, c: u8)
     ensures { λ _. ⌜ now (screen .exit) ≡ pixels w (inRect (rowPart y x0 x1)) c (now (screen .entry)) ⌝ }
 {
     if x0 <= x1 {
-        let at = (y - 65536) as usize * (w as usize);
+        let at = (y - BIAS) as usize * (w as usize);
         set_bytes(
             screen,
-            at + (x0 - 65536) as usize,
-            at + (x1 - 65535) as usize,
+            at + (x0 - BIAS) as usize,
+            at + (x1 + 1 - BIAS) as usize,
             c,
         );
     }
@@ -38,7 +40,7 @@ pub fn row_part(screen: &mut [u8], w: u32, y: u32, x0: u32, x1: u32, c: u8)
 // The rows of r, which is as wide as the screen: one part.
 pub fn whole_rows(screen: &mut [u8], w: u32, r: Rect, c: u8)
     requires { ⌜ Room w r (now screen) ⌝ }
-    requires { ⌜ (0 < w) × (r .l ≡ 65536) × (r .r + 1 ≡ w + 65536) ⌝ }
+    requires { ⌜ (0 < w) × (r .l ≡ bias) × (r .r + 1 ≡ w + bias) ⌝ }
     ensures { λ _. ⌜ now (screen .exit) ≡ pixels w (inRect r) c (now (screen .entry)) ⌝ }
 {
     let t = r.t;
@@ -46,8 +48,8 @@ pub fn whole_rows(screen: &mut [u8], w: u32, r: Rect, c: u8)
     if t <= b {
         set_bytes(
             screen,
-            ((t - 65536) * w) as usize,
-            ((b - 65535) * w) as usize,
+            ((t - BIAS) * w) as usize,
+            ((b + 1 - BIAS) * w) as usize,
             c,
         );
     }

@@ -1,11 +1,12 @@
-// Rectangles of points that are moved up: the drawable points, and a dot's byte.
+// Rectangles of biased points: the drawable points, and a dot's byte.
+use crate::biased::BIAS;
+use crate::biased::Spot;
+use crate::biased::biased;
+use crate::biased::larger;
+use crate::biased::smaller;
 use crate::frame::Frame;
 use crate::frame::Pane;
 use crate::frame::Window;
-use crate::moved::Spot;
-use crate::moved::biased;
-use crate::moved::larger;
-use crate::moved::smaller;
 ghost use mathlib.Core.Path.{_≡_};
 ghost use mathlib.Core.Bool.{_&&_};
 ghost use Prim.Native.Nat.{_<_, _≤_};
@@ -27,10 +28,10 @@ fn pane_rect(p: Pane) -> Rect
     ensures { λ r. ⌜ r ≡ paneRect p ⌝ }
 {
     Rect {
-        l: p.left + 65536,
-        t: p.top + 65536,
-        r: p.right + 65536,
-        b: p.bottom + 65536,
+        l: p.left + BIAS,
+        t: p.top + BIAS,
+        r: p.right + BIAS,
+        b: p.bottom + BIAS,
     }
 }
 
@@ -117,7 +118,7 @@ pub fn byte_of(w: u32, p: Spot) -> usize
     requires { ⌜ Placed w p ⌝ }
     ensures { λ r. ⌜ r ≡ byteB w p ⌝ }
 {
-    ((p.y - 65536) * w + (p.x - 65536)) as usize
+    ((p.y - BIAS) * w + (p.x - BIAS)) as usize
 }
 
 // Paints the dot, which lies within the screen of w columns.

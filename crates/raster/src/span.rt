@@ -1,14 +1,14 @@
 // Which dots of a course are within a rectangle: those from one dot on, before another.
+use crate::biased::Spot;
+use crate::biased::larger;
+use crate::biased::less;
+use crate::biased::smaller;
+use crate::biased::twice_of;
+use crate::biased::wide;
 use crate::course::Course;
 use crate::course::across_of;
 use crate::course::along_of;
 use crate::course::half_of;
-use crate::moved::Spot;
-use crate::moved::larger;
-use crate::moved::less;
-use crate::moved::smaller;
-use crate::moved::twice_of;
-use crate::moved::wide;
 use crate::rect::Rect;
 ghost use mathlib.Core.Path.{_≡_};
 ghost use Prim.Native.Nat.{_<_};

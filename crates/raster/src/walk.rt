@@ -1,10 +1,10 @@
 // A walk along a line's course: from one dot's byte to the next one's, with no product, no division and no question whether
 // a dot is drawable.
+use crate::biased::twice_of;
+use crate::biased::wide;
 use crate::course::Course;
 use crate::course::half_of;
 use crate::course::spot_at;
-use crate::moved::twice_of;
-use crate::moved::wide;
 use crate::rect::byte_of;
 ghost use mathlib.Core.Path.{_≡_};
 ghost use Prim.Native.Nat.{suc, _*_, _<_, _≤_};

@@ -1,4 +1,4 @@
--- `hold_dot`: the dot is stored moved up.
+-- `hold_dot`: the dot is stored biased.
 use borrow.Author.Needs.{needs}
 use Rattle.raster.proofs.Brushes.{dot-held}
 use Rattle.raster.proofs.brush.hold_dot.Statement.{statement}

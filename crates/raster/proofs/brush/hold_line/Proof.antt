@@ -1,4 +1,4 @@
--- `hold_line`: both ends are stored moved up.
+-- `hold_line`: both ends are stored biased.
 use borrow.Author.Needs.{needs}
 use Rattle.raster.proofs.Brushes.{line-held}
 use Rattle.raster.proofs.brush.hold_line.Statement.{statement}

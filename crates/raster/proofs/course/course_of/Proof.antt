@@ -4,7 +4,7 @@ use mathlib.Core.Bool.{Bool, cond}
 use Prim.Native.Nat.{ℕ, min, max}
 use lib.Dec.{leb}
 use borrow.Author.Needs.{needs}
-use Rattle.raster.specs.declared.moved.Spot.{Spot}
+use Rattle.raster.specs.declared.biased.Spot.{Spot}
 use Rattle.raster.specs.Courses.{risingB, courseFrom}
 use Rattle.raster.proofs.course.course_of.Statement.{statement}
 use Rattle.raster.proofs.course.course_of.Tie as tie

@@ -5,8 +5,8 @@ use Prim.Native.Nat.{ℕ, _+_, _<_, _≤_}
 use native.Mathlib.Omega.{arith}
 use native.Mathlib.Nat.{le-trans}
 use borrow.Author.Needs.{needs}
-use Rattle.raster.specs.declared.moved.Spot.{Spot}
-use Rattle.raster.specs.Moved.{aside}
+use Rattle.raster.specs.declared.biased.Spot.{Spot}
+use Rattle.raster.specs.Biased.{aside}
 use Rattle.raster.proofs.course.spot_at.Statement.{statement}
 use Rattle.raster.proofs.course.spot_at.Tie as tie
 

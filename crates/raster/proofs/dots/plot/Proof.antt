@@ -5,7 +5,7 @@ use borrow.Author.Needs.{needs}
 use lib.Dec.{T}
 use Rattle.raster.specs.Shapes.{dot}
 use Rattle.raster.specs.Paint.{paint}
-use Rattle.raster.specs.Moved.{dotOf, dotB}
+use Rattle.raster.specs.Biased.{dotOf, dotB}
 use Rattle.raster.specs.Rects.{pixels, insideB, inRect, rectOf}
 use Rattle.raster.proofs.Rectangles.{room}
 use Rattle.raster.proofs.Pixels.{seen, stored-inside, skipped}

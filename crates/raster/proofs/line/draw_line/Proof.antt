@@ -7,7 +7,7 @@ use borrow.Author.Needs.{needs}
 use Rattle.raster.specs.declared.course.Course.{Course}
 use Rattle.raster.specs.declared.rect.Rect.{Rect}
 use Rattle.raster.specs.Line.{line}
-use Rattle.raster.specs.Moved.{spotOf, dotOf, lineOf}
+use Rattle.raster.specs.Biased.{bias, spotOf, dotOf, lineOf}
 use Rattle.raster.specs.Rects.{pixels, inRect, Room}
 use Rattle.raster.specs.Courses.{courseOf, lineSpot, lineB, Fair}
 use Rattle.raster.proofs.Coordinates.{spot-back}
@@ -70,10 +70,10 @@ dots-within-requires c κs =
     let h = has-room c in
     (is-fair c, low (S c .args .f .bounds .width) (c .rect-of .result .r) (h .narrow) (h .to-right), lower (c .rect-of .result .b) (h .to-bottom))
   where
-    low : (w a : ℕ) → w ≤ 2048 → a < w + 65536 → a < 131072
+    low : (w a : ℕ) → w ≤ 2048 → a < w + bias → a < 131072
     low w a h g = omega arith
 
-    lower : (a : ℕ) → a < 2048 + 65536 → a < 131072
+    lower : (a : ℕ) → a < 2048 + bias → a < 131072
     lower a h = omega arith
 
 -- ---- where some dot is within

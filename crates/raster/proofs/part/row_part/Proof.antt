@@ -32,14 +32,17 @@ cast-set-bytes c = search needs
 add-set-bytes : tie.Need-add-set-bytes
 add-set-bytes c = omega (arith, last (c .before) .0, last (c .before) .1)
 
+add-set-bytes-2 : tie.Need-add-set-bytes-2
+add-set-bytes-2 c = search needs
+
 sub-set-bytes-2 : tie.Need-sub-set-bytes-2
 sub-set-bytes-2 c = search needs
 
 cast-set-bytes-2 : tie.Need-cast-set-bytes-2
 cast-set-bytes-2 c = search needs
 
-add-set-bytes-2 : tie.Need-add-set-bytes-2
-add-set-bytes-2 c = omega (arith, last (c .before) .0, last (c .before) .1)
+add-set-bytes-3 : tie.Need-add-set-bytes-3
+add-set-bytes-3 c = omega (arith, last (c .before) .0, last (c .before) .1)
 
 set-bytes-requires : tie.Need-set-bytes-requires
 set-bytes-requires c κs = omega (arith, last (c .before) .0, last (c .before) .1)
@@ -70,9 +73,10 @@ row-part-spec =
     sub-set-bytes
     cast-set-bytes
     add-set-bytes
+    add-set-bytes-2
     sub-set-bytes-2
     cast-set-bytes-2
-    add-set-bytes-2
+    add-set-bytes-3
     set-bytes-requires
     same-length
     returns

@@ -2,13 +2,14 @@
 use mathlib.Core.Path.{_∙_}
 use native.Mathlib.Omega.{arith}
 use borrow.Author.Needs.{needs}
-use Prim.Native.Nat.{_-_, _*_, _≤_}
+use Prim.Native.Nat.{_+_, _-_, _*_, _≤_}
+use Rattle.raster.specs.Biased.{bias}
 use Rattle.raster.proofs.Parts.{no-pixel, rows-as-bytes, rows-small}
 use Rattle.raster.proofs.part.whole_rows.Statement.{statement}
 use Rattle.raster.proofs.part.whole_rows.Tie as tie
 
 small : (c : tie.After-set-bytes-arg) → let g = c .before .before .before .args in
-    ((g .r .t - 65536) * g .w ≤ 2048 * 2048) × ((g .r .b - 65535) * g .w ≤ 2048 * 2048)
+    ((g .r .t - bias) * g .w ≤ 2048 * 2048) × ((g .r .b + 1 - bias) * g .w ≤ 2048 * 2048)
 small c =
     let s = c .before .before .before in
     let g = s .args in
@@ -22,6 +23,9 @@ mul-set-bytes c = omega (arith, small c .0)
 
 cast-set-bytes : tie.Need-cast-set-bytes
 cast-set-bytes c = omega (arith, small c .0)
+
+add-set-bytes : tie.Need-add-set-bytes
+add-set-bytes c = search needs
 
 sub-set-bytes-2 : tie.Need-sub-set-bytes-2
 sub-set-bytes-2 c = search needs
@@ -58,6 +62,7 @@ whole-rows-spec =
     sub-set-bytes
     mul-set-bytes
     cast-set-bytes
+    add-set-bytes
     sub-set-bytes-2
     mul-set-bytes-2
     cast-set-bytes-2

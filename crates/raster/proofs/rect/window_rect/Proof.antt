@@ -1,7 +1,7 @@
 -- `raster::rect::window_rect` meets its contract: each corner's coordinates come back whole from the call.
 use mathlib.Core.Path.{ap, _∙_}
 use borrow.Author.Needs.{needs}
-use Rattle.raster.specs.Moved.{bias}
+use Rattle.raster.specs.Biased.{biased}
 use Rattle.raster.proofs.Coordinates.{back}
 use Rattle.raster.proofs.rect.window_rect.Statement.{statement}
 use Rattle.raster.proofs.rect.window_rect.Tie as tie
@@ -25,10 +25,10 @@ returns c =
     let l = t .before .before in
     let s = l .before .before in
     let w = s .args .w in
-    let left = l .biased .ensures ∙ ap bias (back (w .x0) (s .pre .0)) in
-    let top = t .biased2 .ensures ∙ ap bias (back (w .y0) (s .pre .1)) in
-    let right = r .biased3 .ensures ∙ ap bias (back (w .x1) (s .pre .2)) in
-    let bottom = c .biased4 .ensures ∙ ap bias (back (w .y1) (s .pre .3)) in
+    let left = l .biased .ensures ∙ ap biased (back (w .x0) (s .pre .0)) in
+    let top = t .biased2 .ensures ∙ ap biased (back (w .y0) (s .pre .1)) in
+    let right = r .biased3 .ensures ∙ ap biased (back (w .x1) (s .pre .2)) in
+    let bottom = c .biased4 .ensures ∙ ap biased (back (w .y1) (s .pre .3)) in
     (λ i. record { l = left i; t = top i; r = right i; b = bottom i })
 
 pub window-rect-spec : {M : Type 1} → statement M

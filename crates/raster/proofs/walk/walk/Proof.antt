@@ -7,7 +7,7 @@ use native.Mathlib.Nat.{le-refl, le-antisymm, le-trans}
 use native.Mathlib.Numerals.{add-one}
 use borrow.Author.Count.{falls}
 use lib.ListN.{length, length-set}
-use Rattle.raster.specs.declared.moved.Spot.{Spot}
+use Rattle.raster.specs.declared.biased.Spot.{Spot}
 use Rattle.raster.specs.declared.walk.Place.{Place}
 use Rattle.raster.specs.Rects.{byteB, Placed, Seen}
 use Rattle.raster.specs.Courses.{offsetOf, spotAt, lineSpot}

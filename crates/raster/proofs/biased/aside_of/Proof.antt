@@ -1,10 +1,10 @@
--- `raster::moved::aside_of` meets its contract: up or down, by the test.
+-- `raster::biased::aside_of` meets its contract: up or down, by the test.
 use mathlib.Core.Path.{sym, ap}
 use mathlib.Core.Bool.{Bool}
 use borrow.Author.Needs.{needs}
-use Rattle.raster.specs.Moved.{aside}
-use Rattle.raster.proofs.moved.aside_of.Statement.{statement}
-use Rattle.raster.proofs.moved.aside_of.Tie as tie
+use Rattle.raster.specs.Biased.{aside}
+use Rattle.raster.proofs.biased.aside_of.Statement.{statement}
+use Rattle.raster.proofs.biased.aside_of.Tie as tie
 
 add-result : tie.Need-add-result
 add-result c = search needs

@@ -1,24 +1,27 @@
--- Coordinates moved up by 65,536, so that they are natural numbers: names that end in B speak of such.
+-- Coordinates biased by 65,536, so that they are natural numbers: names that end in B speak of such.
 use mathlib.Core.Bool.{Bool, cond, _&&_}
-use Prim.Native.Nat.{ℕ, _+_, _-_}
+use Prim.Native.Nat.{ℕ, suc, _+_, _-_}
 use lib.IntN.{ℤ, pos, negsuc, subℕ}
 use lib.Dec.{eqb}
 use Rattle.raster.specs.declared.dots.Dot.{Dot}
 use Rattle.raster.specs.declared.line.Line.{Line}
-use Rattle.raster.specs.declared.moved.Spot.{Spot}
+use Rattle.raster.specs.declared.biased.Spot.{Spot}
 use Rattle.raster.specs.Frame.{Coord}
 
--- z + 65,536
-abbrev pub bias : ℤ → ℕ
-bias (pos n) = n + 65536
-bias (negsuc n) = 65535 - n
+-- what is added to a coordinate
+abbrev pub bias : ℕ
+bias = 65536
+
+abbrev pub biased : ℤ → ℕ
+biased (pos n) = n + bias
+biased (negsuc n) = bias - suc n
 
 abbrev pub spotOf : Dot → Spot
-spotOf d = record { x = bias (d .x); y = bias (d .y) }
+spotOf d = record { x = biased (d .x); y = biased (d .y) }
 
 -- and down again
 abbrev pub dotOf : Spot → Dot
-dotOf p = record { x = subℕ (p .x) 65536; y = subℕ (p .y) 65536 }
+dotOf p = record { x = subℕ (p .x) bias; y = subℕ (p .y) bias }
 
 abbrev pub lineOf : Spot → Spot → Line
 lineOf p q = record { from = dotOf p; to = dotOf q }
@@ -29,7 +32,7 @@ NearB p = Coord (dotOf p .x) × Coord (dotOf p .y)
 
 -- the pixel in column i of row j is the dot p
 abbrev pub dotB : Spot → ℕ → ℕ → Bool
-dotB p i j = eqb (p .x) (i + 65536) && eqb (p .y) (j + 65536)
+dotB p i j = eqb (p .x) (i + bias) && eqb (p .y) (j + bias)
 
 abbrev pub gapB : ℕ → ℕ → ℕ
 gapB a b = (b - a) + (a - b)

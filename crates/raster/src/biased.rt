@@ -1,13 +1,16 @@
-// Coordinates moved up by 65,536, so that they are unsigned, and arithmetic with them. Nothing else computes with signed
+// Coordinates biased by 65,536, so that they are unsigned, and arithmetic with them. Nothing else computes with signed
 // numbers.
 use crate::dots::Dot;
 ghost use mathlib.Core.Path.{_≡_};
 ghost use mathlib.Core.Bool.{false};
 ghost use Prim.Native.Nat.{_-_, _*_, _<_, _≤_, min, max};
 ghost use Rattle.raster.specs.Frame.{Coord};
-ghost use Rattle.raster.specs.Moved.{bias, spotOf, gapB, aside};
+ghost use Rattle.raster.specs.Biased.{biased, spotOf, gapB, aside};
 
-// A dot, moved up.
+// What is added to a coordinate.
+pub const BIAS: u32 = 65536;
+
+// A dot, biased.
 pub struct Spot {
     pub x: u32,
     pub y: u32,
@@ -15,9 +18,9 @@ pub struct Spot {
 
 pub fn biased(z: i32) -> u32
     requires { ⌜ Coord z ⌝ }
-    ensures { λ r. ⌜ r ≡ bias z ⌝ }
+    ensures { λ r. ⌜ r ≡ biased z ⌝ }
 {
-    (z + 65536) as u32
+    (z + BIAS as i32) as u32
 }
 
 pub fn spot_of(d: Dot) -> Spot

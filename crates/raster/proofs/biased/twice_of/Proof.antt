@@ -1,11 +1,11 @@
--- `raster::moved::twice_of` meets its contract: no product of such numbers wraps.
+-- `raster::biased::twice_of` meets its contract: no product of such numbers wraps.
 use mathlib.Core.Path.{_≡_, ap₂, subst⁻¹}
 use Prim.Native.Nat.{ℕ, _*_, _<_}
 use native.Mathlib.Omega.{arith}
 use native.Mathlib.Nat.{mul-le-mul}
 use borrow.Author.Needs.{needs}
-use Rattle.raster.proofs.moved.twice_of.Statement.{statement}
-use Rattle.raster.proofs.moved.twice_of.Tie as tie
+use Rattle.raster.proofs.biased.twice_of.Statement.{statement}
+use Rattle.raster.proofs.biased.twice_of.Tie as tie
 
 product : (c : tie.After-wide2) → 2 * c .before .wide .result * c .wide2 .result ≡ 2 * c .before .before .args .a * c .before .before .args .b
 product c = ap₂ (λ (u v : ℕ). 2 * u * v) (c .before .wide .ensures) (c .wide2 .ensures)
