@@ -1,18 +1,21 @@
 -- The door of any player: what it lets in, both ways; its number, by the first test that fails; and the whole call, by that number.
 use Prim.Native.Nat.{ℕ, zero, suc, _*_, _<_, _≤_}
-use mathlib.Core.Path.{_≡_, refl, sym, _∙_}
+use mathlib.Core.Path.{_≡_, refl, sym, _∙_, subst}
 use mathlib.Core.Bool.{Bool, true, false, _&&_}
 use mathlib.Core.List.{List}
 use native.Mathlib.Nat.{mul-le-mul}
 use native.Mathlib.Omega.{arith}
 use lib.ListN.{length}
-use lib.Dec.{leb, eqb}
+use lib.Dec.{leb, eqb, lit≤}
 use borrow.Author.Tests.{leb-true, le-leb, lt-leb, eqb-true, eq-eqb, ne-eqb}
 use Rattle.raster.specs.declared.frame.Bounds.{Bounds}
-use Rattle.player.specs.Player.{verdict}
-use Rattle.player.specs.Run.{answer, runs}
+use Rattle.player.specs.Player.{verdict, Stops}
+use Rattle.player.specs.Run.{Answer, answer, runs}
+use Rattle.player.specs.Shown.{numberOf}
 use Rattle.player.specs.Hosted.{Request, Hosted, answered}
 use Rattle.player.specs.Door.{between, sizeFits, unless, doorOf}
+use Rattle.player.specs.Stands.{budgeted}
+use Rattle.player.proofs.Runs
 
 -- ---- what the door lets in
 pub record Open (q : Request (List ℕ)) (b : Bounds) (fits : Bool) (bytes : ℕ) : Type 0 where
@@ -69,6 +72,27 @@ module _ (q : Request (List ℕ)) (b : Bounds) (fits : Bool) (bytes : ℕ) where
         unfolding doorOf
         is-0 l k = sym (rw (s, eq-eqb _ _ same, f, le-leb _ _ l, le-leb _ _ k))
 
+-- no number of the door is above 14
+pub at-most-14 : (q : Request (List ℕ)) (b : Bounds) (fits : Bool) (bytes : ℕ) → doorOf q b fits bytes ≤ 14
+unfolding doorOf
+at-most-14 q b fits bytes =
+    or-less 10 (sizeFits b) (lit≤ tt)
+    (or-less 11 (eqb bytes (b .width * b .height)) (lit≤ tt)
+    (or-less 12 fits (lit≤ tt)
+    (or-less 13 (leb (length (q .list)) 65536) (lit≤ tt)
+    (or-less 14 (leb (q .budget) 1000000) (lit≤ tt) (lit≤ tt)))))
+  where
+    or-less : (n : ℕ) (t : Bool) {x : ℕ} → n ≤ 14 → x ≤ 14 → unless n t x ≤ 14
+    or-less n true h k = k
+    or-less n false h k = h
+
+-- what is let in, is let in with any smaller budget
+pub lets-in-less : (q : Request (List ℕ)) (b : Bounds) (fits : Bool) (bytes k : ℕ) → k ≤ q .budget → doorOf q b fits bytes ≡ 0
+    → doorOf (budgeted k q) b fits bytes ≡ 0
+lets-in-less q b fits bytes k l h =
+    let o = opened q b fits bytes h in
+    opens (budgeted k q) b fits bytes (record { size = o .size; area = o .area; ranges = o .ranges; few = o .few; short = omega (arith, o .short) })
+
 -- ---- two tests that both hold
 pub one : (a b : Bool) → (a && b) ≡ true → a ≡ true
 one true b p = refl
@@ -99,3 +123,10 @@ module _ (H : Hosted) (q : Request (H .Words)) (e : H .Env) (s : List ℕ) (d : 
   pub run-whole : d ≡ 0 → runs (H .player (q .list)) (q .budget) e s 0 ≡ answered H q e s
   unfolding answered
   run-whole h = let k : H .door q e (length s) ≡ 0 = sym is ∙ h in rw k
+
+-- a call that was let in answers the number of the state that it leaves
+pub says-state : (H : Hosted) → ((w : H .Words) → Stops (H .player w)) → (q : Request (H .Words)) (e : H .Env) (s : List ℕ) → H .door q e (length s) ≡ 0
+    → let a = answered H q e s in a .verdict .number ≡ numberOf (H .player (q .list) .state (a .env))
+says-state H stops q e s h =
+    subst (λ (a : Answer (H .Env)). a .verdict .number ≡ numberOf (H .player (q .list) .state (a .env))) (run-whole H q e s 0 (sym h) refl)
+    (Runs.says-state (H .player (q .list)) (stops (q .list)) (q .budget) e s 0)

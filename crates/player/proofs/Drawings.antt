@@ -13,7 +13,7 @@ use Rattle.raster.specs.Paint.{columnOf, rowOf, hit}
 use Rattle.raster.proofs.Tests.{left, both}
 use Rattle.raster.proofs.Paintings.{length-paint, byte-paint, kept, drawable-pixel}
 use Rattle.player.specs.Painting.{Painting, painted, drawn}
-use Rattle.player.specs.Pane.{holds, Alike}
+use Rattle.player.specs.Pane.{ofPane, Alike}
 use Rattle.player.specs.Reply.{Reply}
 use Rattle.player.specs.Mixing.{Callable}
 use Rattle.player.specs.Obeys.{Obeys}
@@ -24,15 +24,15 @@ length-painted : (p : Painting) (s : List ℕ) → length (painted p s) ≡ leng
 length-painted p s = length-paint (p .frame) (p .shape) (p .colour) s
 
 -- a byte that it hits is in its pane
-hit-holds : (f : Frame) (S : Shape) (k : ℕ) → T (hit f S k) → T (holds (f .bounds) k)
-hit-holds f S k t =
+hit-of-pane : (f : Frame) (S : Shape) (k : ℕ) → T (hit f S k) → T (ofPane (f .bounds) k)
+hit-of-pane f S k t =
     let x = columnOf (f .bounds) k in
     let y = rowOf (f .bounds) k in
     let d = drawable-pixel f x y (left (drawable f x y) (S x y) t) in
     both (onScreen (f .bounds) x y) (inPane (f .bounds) x y) (d .0) (d .1)
 
-painted-stays : (p : Painting) (s : List ℕ) (k : ℕ) → k < length s → (T (holds (p .frame .bounds) k) → ⊥) → getD (painted p s) k 0 ≡ getD s k 0
-painted-stays p s k l n = kept (p .frame) (p .shape) (p .colour) s k l (λ t. n (hit-holds (p .frame) (p .shape) k t))
+painted-stays : (p : Painting) (s : List ℕ) (k : ℕ) → k < length s → (T (ofPane (p .frame .bounds) k) → ⊥) → getD (painted p s) k 0 ≡ getD s k 0
+painted-stays p s k l n = kept (p .frame) (p .shape) (p .colour) s k l (λ t. n (hit-of-pane (p .frame) (p .shape) k t))
 
 alike-painted : (b : Bounds) (p : Painting) (s t : List ℕ) → Alike b s t → Alike b (painted p s) (painted p t)
 alike-painted b p s t h =
@@ -51,7 +51,7 @@ length-drawn : (ps : List Painting) (s : List ℕ) → length (drawn ps s) ≡ l
 length-drawn [] s = refl
 length-drawn (p ∷ ps) s = length-drawn ps (painted p s) ∙ length-painted p s
 
-drawn-stays : (b : Bounds) (ps : List Painting) → Inside b ps → (s : List ℕ) (k : ℕ) → k < length s → (T (holds b k) → ⊥) → getD (drawn ps s) k 0 ≡ getD s k 0
+drawn-stays : (b : Bounds) (ps : List Painting) → Inside b ps → (s : List ℕ) (k : ℕ) → k < length s → (T (ofPane b k) → ⊥) → getD (drawn ps s) k 0 ≡ getD s k 0
 drawn-stays b [] h s k l n = refl
 drawn-stays b (p ∷ ps) h s k l n =
     drawn-stays b ps (h .1) (painted p s) k (rw (length-painted p s) l) n ∙ painted-stays p s k l (rw (h .0) n)

@@ -8,6 +8,7 @@ pub mod Promises
 pub mod Drawings
 pub mod Hosts
 pub mod Doors
+pub mod Stands
 pub mod Turning
 pub mod Toys
 pub mod Strays

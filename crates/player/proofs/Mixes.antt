@@ -7,7 +7,7 @@ use lib.Dec.{T}
 use lib.ListN.{length, getD}
 use lib.Seq.{ext-getD}
 use Rattle.raster.specs.declared.frame.Bounds.{Bounds}
-use Rattle.player.specs.Pane.{holds, Apart, Alike}
+use Rattle.player.specs.Pane.{ofPane, Apart, Alike}
 use Rattle.player.specs.Reply.{Got}
 use Rattle.player.specs.Mixing.{Callable, Alone, alone, one, two, Mix, ones, twos, Mixed, mixed}
 use Rattle.player.specs.Obeys.{Obeys}
@@ -16,7 +16,7 @@ use Rattle.player.proofs.Panes.{no-byte, alike-refl}
 
 -- no byte is in both panes
 abbrev Disjoint : Bounds → Bounds → Type 0
-Disjoint p q = (k : ℕ) → T (holds p k) → T (holds q k) → ⊥
+Disjoint p q = (k : ℕ) → T (ofPane p k) → T (ofPane q k) → ⊥
 
 -- a call of one side leaves the other's pane as it was
 untouched : (A : Callable) → Obeys A → (q : A .Request) (e : A .Env) (s t : List ℕ) (p : Bounds) → Disjoint (A .bounds e) p → Alike p s t
@@ -72,7 +72,7 @@ module _ (A B : Callable) (OA : Obeys A) (OB : Obeys B) where
 -- ---- there is one thing only that is as what the sides have alone
 module _ (A B : Callable) (a : A .Env) (b : B .Env) (s : List ℕ) (x x′ : Mixed A B) (y : Alone A) (z : Alone B)
     (h : AsAlone A B a b s x y z) (h′ : AsAlone A B a b s x′ y z) where
-  same-byte : (k : ℕ) → k < length s → (p q : Bool) → holds (A .bounds a) k ≡ p → holds (B .bounds b) k ≡ q → getD (x .screen) k 0 ≡ getD (x′ .screen) k 0
+  same-byte : (k : ℕ) → k < length s → (p q : Bool) → ofPane (A .bounds a) k ≡ p → ofPane (B .bounds b) k ≡ q → getD (x .screen) k 0 ≡ getD (x′ .screen) k 0
   same-byte k l true q e f = h .pane₁ .bytes k (rw (h .long) l) (rw e tt) ∙ sym (h′ .pane₁ .bytes k (rw (h′ .long) l) (rw e tt))
   same-byte k l false true e f = h .pane₂ .bytes k (rw (h .long) l) (rw f tt) ∙ sym (h′ .pane₂ .bytes k (rw (h′ .long) l) (rw f tt))
   same-byte k l false false e f = h .others k l (λ t. subst T e t) (λ t. subst T f t) ∙ sym (h′ .others k l (λ t. subst T e t) (λ t. subst T f t))
@@ -80,7 +80,7 @@ module _ (A B : Callable) (a : A .Env) (b : B .Env) (s : List ℕ) (x x′ : Mix
   same-screen : x .screen ≡ x′ .screen
   same-screen =
       ext-getD 0 (x .screen) (x′ .screen) (h .long ∙ sym (h′ .long))
-      (λ k l. same-byte k (rw (h .long) at l) (holds (A .bounds a) k) (holds (B .bounds b) k) refl refl)
+      (λ k l. same-byte k (rw (h .long) at l) (ofPane (A .bounds a) k) (ofPane (B .bounds b) k) refl refl)
 
   only : x ≡ x′
   only = λ i. record { got₁ = (h .got₁ ∙ sym (h′ .got₁)) i; got₂ = (h .got₂ ∙ sym (h′ .got₂)) i; screen = same-screen i }

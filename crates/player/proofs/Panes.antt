@@ -9,10 +9,10 @@ use Rattle.raster.specs.declared.frame.Bounds.{Bounds}
 use Rattle.raster.specs.Frame.{onScreen, inPane, within}
 use Rattle.raster.specs.Paint.{columnOf, rowOf}
 use Rattle.raster.proofs.Tests.{left, right}
-use Rattle.player.specs.Pane.{pixel, holds, Apart, Alike}
+use Rattle.player.specs.Pane.{pixel, ofPane, Apart, Alike}
 
 -- no byte is in both panes
-pub no-byte : (p q : Bounds) → Apart p q → (k : ℕ) → T (holds p k) → T (holds q k) → ⊥
+pub no-byte : (p q : Bounds) → Apart p q → (k : ℕ) → T (ofPane p k) → T (ofPane q k) → ⊥
 no-byte p q h k t u =
     h .disjoint (columnOf p k) (rowOf p k) t (subst (λ (w : ℕ). T (pixel q (pos (k % w)) (pos (k / w)))) (sym (h .width)) u)
 

@@ -1,5 +1,5 @@
--- What programs that keep their promises do is the mixing of the rules, so demand 3 is true of it.
-use mathlib.Core.Path.{_≡_, sym, ap, _∙_, subst}
+-- What programs that keep their promises do is the mixing of the rules, so demand 3 is true of it; and where they answer, they do something.
+use mathlib.Core.Path.{_≡_, refl, sym, ap, _∙_, subst}
 use mathlib.Core.List.{List, [], _∷_}
 use Prim.Native.Nat.{ℕ}
 use Rattle.player.specs.Pane.{Apart}
@@ -7,7 +7,7 @@ use Rattle.player.specs.Reply.{Reply}
 use Rattle.player.specs.Mixing.{Callable, one, two, Mix, ones, twos, Mixed, mixed, one-got, two-got}
 use Rattle.player.specs.Obeys.{Obeys}
 use Rattle.player.specs.Undisturbed.{Undisturbed}
-use Rattle.player.specs.Promised.{viewed, Promised, Happened}
+use Rattle.player.specs.Promised.{viewed, Promised, Answers, Happened}
 use Rattle.player.proofs.Mixes.{undisturbed, same-calls}
 
 module _ (A B : Callable) (F : Promised A) (G : Promised B) where
@@ -25,6 +25,18 @@ module _ (A B : Callable) (F : Promised A) (G : Promised B) where
       h .4
       ∙ ap (two-got A B (viewed (G .view) (r .got))) (happened m a (r .got .env) (r .screen) (h .2) (h .3))
       ∙ ap (λ (c : Reply (B .Env) (B .Told)). two-got A B (c .got) (mixed A B m (F .view a) (c .got .env) (c .screen))) (G .true-to q b s r (h .1))
+
+  -- two programs that answer leave something of every mixing
+  pub some-happened : Answers F → Answers G → (m : Mix A B) (a : F .Held) (b : G .Held) (s : List ℕ) → (x : Mixed A B) × Happened A B F G m a b s x
+  some-happened f g [] a b s = (record { got₁ = []; got₂ = []; screen = s }, refl)
+  some-happened f g (one q ∷ m) a b s =
+      let (r, kept) = f q a s in
+      let (y, h) = some-happened f g m (r .got .env) b (r .screen) in
+      (one-got A B (viewed (F .view) (r .got)) y, (r, kept, y, h, refl))
+  some-happened f g (two q ∷ m) a b s =
+      let (r, kept) = g q b s in
+      let (y, h) = some-happened f g m a (r .got .env) (r .screen) in
+      (two-got A B (viewed (G .view) (r .got)) y, (r, kept, y, h, refl))
 
   module _ (OA : Obeys A) (OB : Obeys B) (a : F .Held) (b : G .Held) (apart : Apart (A .bounds (F .view a)) (B .bounds (G .view b))) (s : List ℕ) where
     pub happened-undisturbed : (m : Mix A B) (x : Mixed A B) → Happened A B F G m a b s x → Undisturbed A B m (F .view a) (G .view b) s x

@@ -1,17 +1,20 @@
--- What demand 3 is shown from is needed, each part: without it a mixing disturbs a side.
-use mathlib.Core.Path.{_≡_, ap}
+-- What demand 3 is shown from is needed, each part: without it a mixing disturbs a side. And so for demand 1: only refusals may stop.
+use mathlib.Core.Path.{_≡_, refl, ap}
 use mathlib.Core.List.{List, [], _∷_}
 use Prim.Native.Nat.{ℕ}
 use native.Mathlib.Omega.{arith}
 use Rattle.raster.specs.Frame.{drawable}
 use Rattle.raster.specs.Paint.{recolourFrom, paint}
+use Rattle.player.specs.declared.Verdict.{Verdict}
 use Rattle.player.specs.Reply.{Got}
+use Rattle.player.specs.Player.{verdict}
 use Rattle.player.specs.Run.{runs}
 use Rattle.player.specs.Mixing.{Callable, alone, one, two, Mix, mixed}
 use Rattle.player.specs.Undisturbed.{Undisturbed}
 use Rattle.player.specs.Hosted.{answered, callable}
-use Rattle.player.specs.Toy.{Env, fresh, west, east, toys}
-use Rattle.player.specs.Stray.{spills, widens, peeks, loses}
+use Rattle.player.specs.Stands.{EndsStopped, Stands}
+use Rattle.player.specs.Toy.{Env, fresh, west, east, toy, toys}
+use Rattle.player.specs.Stray.{spills, widens, peeks, loses, halts}
 use Rattle.player.proofs.Toys.{brushes, pens, ask, blank}
 
 abbrev Disturbed : (A B : Callable) → Mix A B → A .Env → B .Env → Type 0
@@ -50,3 +53,9 @@ peeked u = let z : _≡_ {A = ℕ} 9 0 = ap heard (u .got₁) in omega arith
 pub lost : Disturbed loses brushes (one 0 ∷ []) east west
 unfolding mixed
 lost u = let z : _≡_ {A = ℕ} 14 15 = u .long in omega arith
+
+-- a word that is carried out and stops: the call with a budget of just its steps is stopped as well
+pub halted : EndsStopped (toys halts) (ask (7 ∷ []) 9) west blank (verdict 20)
+    × (Stands (toy halts (7 ∷ [])) (verdict 20) (answered (toys halts) (ask (7 ∷ []) 9) west blank) (answered (toys halts) (ask (7 ∷ []) 1) west blank) → ⊥)
+unfolding answered runs
+halted = (record { entered = refl; began = refl; stopped = refl }, λ t. let z : _≡_ {A = ℕ} 20 1 = ap (λ (v : Verdict). v .number) (t .used-up) in omega arith)

@@ -1,25 +1,28 @@
--- Demand 3 for the brush and the pen, and one mixing of their calls worked out.
+-- Demand 3 for the brush and the pen, and one mixing of their calls worked out; demand 1 for the pen, and one call that it refuses.
 use mathlib.Core.Path.{_≡_, refl}
 use mathlib.Core.Bool.{Bool, true, false, cond}
 use mathlib.Core.List.{List, [], _∷_}
-use Prim.Native.Nat.{ℕ, zero, suc}
+use Prim.Native.Nat.{ℕ, zero, suc, _*_}
 use native.Mathlib.Omega.{arith}
-use lib.Dec.{leb}
+use lib.Dec.{leb, ltb, eqb}
 use lib.ListN.{length, getD, replicate}
+use borrow.Author.Tests.{ltb-false, le-ltb}
 use Rattle.raster.specs.declared.frame.Bounds.{Bounds}
 use Rattle.raster.specs.Frame.{drawable}
 use Rattle.raster.specs.Paint.{recolourFrom, paint}
 use Rattle.player.specs.Reply.{Got}
-use Rattle.player.specs.Player.{verdict, Outcome, refused}
+use Rattle.player.specs.Player.{verdict, Outcome, refused, LeavesUnstopped, OnlyRefusalsStop}
 use Rattle.player.specs.Run.{Told, runs}
 use Rattle.player.specs.Pane.{Apart}
 use Rattle.player.specs.Mixing.{Callable, one, two, Mix, ones, twos, Mixed, mixed}
 use Rattle.player.specs.Undisturbed.{Undisturbed}
 use Rattle.player.specs.Hosted.{Request, answered, callable}
 use Rattle.player.specs.Keeps.{Stays, Keeps}
+use Rattle.player.specs.Stands.{LetsInLess, EndsStopped, Stands}
 use Rattle.player.specs.Toy.{Env, west, east, brush, pen, toy, toys}
 use Rattle.player.proofs.Panes.{beside}
 use Rattle.player.proofs.Hosts
+use Rattle.player.proofs.Stands.{stands}
 
 abbrev pub brushes : Callable
 brushes = callable (toys brush)
@@ -88,3 +91,32 @@ pub played : shown (mixed brushes pens calls west east blank)
     ≡ ((1, 1) ∷ (0, 3) ∷ [], (1, 3) ∷ (20, 0) ∷ (14, 0) ∷ (20, 0) ∷ [], 8 ∷ 8 ∷ 0 ∷ 0 ∷ 0 ∷ 8 ∷ 8 ∷ 0 ∷ 0 ∷ 0 ∷ 8 ∷ 8 ∷ 9 ∷ 0 ∷ 0 ∷ [])
 unfolding mixed answered runs paint drawable recolourFrom
 played = refl
+
+-- ---- demand 1: the pen refuses a word past its list's end
+lets-in-less : LetsInLess (toys pen)
+lets-in-less q e bytes k l h = less (eqb bytes (e .frame .bounds .height * e .frame .bounds .width)) h
+  where
+    allowed : (t : Bool) → _≡_ {A = ℕ} (cond t 14 0) 0 → t ≡ false
+    allowed true h = absurd (omega (arith, h))
+    allowed false h = refl
+
+    less : (t : Bool) → _≡_ {A = ℕ} (cond t (cond (ltb 1000000 (q .budget)) 14 0) 11) 0 → _≡_ {A = ℕ} (cond t (cond (ltb 1000000 k) 14 0) 11) 0
+    less true h = let m = ltb-false 1000000 (q .budget) (allowed _ h) in rw (le-ltb 1000000 k (omega arith))
+    less false h = h
+
+only-refusals-stop : (w : List ℕ) → OnlyRefusalsStop (toy pen w)
+only-refusals-stop w e h = by (leb (length w) (e .at))
+  where
+    by : (t : Bool) → LeavesUnstopped (toy pen w) (cond t (refused (verdict 20)) (pen (getD w (e .at) 0) e))
+    by true = tt
+    by false = tt
+
+-- three dots stand, and the end of the list is refused
+past-the-end : EndsStopped (toys pen) (ask (0 ∷ 1 ∷ 2 ∷ []) 9) east blank (verdict 20)
+unfolding answered runs
+past-the-end = record { entered = refl; began = refl; stopped = refl }
+
+pub dots-stand : Stands (toy pen (0 ∷ 1 ∷ 2 ∷ [])) (verdict 20) (answered (toys pen) (ask (0 ∷ 1 ∷ 2 ∷ []) 9) east blank)
+    (answered (toys pen) (ask (0 ∷ 1 ∷ 2 ∷ []) 3) east blank)
+unfolding answered runs
+dots-stand = stands (toys pen) lets-in-less (λ w v e. refl) only-refusals-stop (ask (0 ∷ 1 ∷ 2 ∷ []) 9) east blank (verdict 20) past-the-end

@@ -58,21 +58,21 @@ module _ {E : Type 0} (P : Player E) where
   pub turned-long : {e : E} {s : List ℕ} {e₁ : E} {s₁ : List ℕ} → Turned e s e₁ s₁ → length s₁ ≡ length s
   turned-long {s = s} t = ap length (t .screen) ∙ length-recolour _ _ s
 
-  module _ (frame : E → Frame) (e : E) (s : List ℕ) (q : ℕ) (e₁ : E) (p : List ℕ) (told : seen frame q e₁ p ≡ shown (P .step e) e) {s₁ : List ℕ} where
+  module _ (frame : E → Frame) (e : E) (s : List ℕ) (q : ℕ) (e₁ : E) (p : List ℕ) (as-shown : seen frame q e₁ p ≡ shown (P .step e) e) {s₁ : List ℕ} where
     -- 1 came back, and what the brush holds was painted
     pub turned-painting : q ≡ 1 → {f : Frame} → f ≡ frame e₁ → s₁ ≡ paint f (shapeOf p) (colourOf p) s → Turned e s e₁ s₁
     turned-painting z is x =
         record {
           dots = marks (brushed (frame e₁) p);
           screen = x ∙ (ap (λ (g : Frame). paint g (shapeOf p) (colourOf p) s) is ∙ sym (marked-is (brushed (frame e₁) p) s));
-          shows = painting frame e₁ p z ∙ told;
+          shows = painting frame e₁ p z ∙ as-shown;
         }
 
     -- 0 came back, and nothing was
     pub turned-quiet : q ≤ 1 → (q ≡ 1 → ⊥) → s₁ ≡ s → Turned e s e₁ s₁
     turned-quiet h n x =
         let b = frame e₁ .bounds in
-        record { dots = unmarked b; screen = x ∙ unmarked-is b s; shows = quiet frame e₁ p q h n ∙ told }
+        record { dots = unmarked b; screen = x ∙ unmarked-is b s; shows = quiet frame e₁ p q h n ∙ as-shown }
 
 module _ {E : Type 0} (P : Player E) (left : ℕ) (e : E) (s : List ℕ) (k : ℕ) where
   abbrev turn : State → Outcome E → Answer E

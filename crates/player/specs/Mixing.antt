@@ -26,22 +26,22 @@ alone A (q ∷ qs) e s =
     let x = alone A qs (r .got .env) (r .screen) in
     record { got = r .got ∷ x .got; screen = x .screen }
 
--- one turn of a mixing: a call of the one side or of the other
-pub data Turn (Q R : Type 0) : Type 0 where
-  one : Q → Turn Q R
-  two : R → Turn Q R
+-- a call of the one side or of the other
+pub data Call (Q R : Type 0) : Type 0 where
+  one : Q → Call Q R
+  two : R → Call Q R
 
--- however calls are mixed: any turns one after the other
+-- however calls are mixed: any calls, one after the other
 abbrev pub Mix : Callable → Callable → Type 0
-Mix A B = List (Turn (A .Request) (B .Request))
+Mix A B = List (Call (A .Request) (B .Request))
 
 -- the calls of each side, in their order
-abbrev pub ones : {Q R : Type 0} → List (Turn Q R) → List Q
+abbrev pub ones : {Q R : Type 0} → List (Call Q R) → List Q
 ones [] = []
 ones (one q ∷ m) = q ∷ ones m
 ones (two r ∷ m) = ones m
 
-abbrev pub twos : {Q R : Type 0} → List (Turn Q R) → List R
+abbrev pub twos : {Q R : Type 0} → List (Call Q R) → List R
 twos [] = []
 twos (one q ∷ m) = twos m
 twos (two r ∷ m) = r ∷ twos m

@@ -5,7 +5,7 @@ use mathlib.Core.List.{List}
 use lib.Dec.{T}
 use lib.ListN.{length, getD}
 use Rattle.raster.specs.declared.frame.Bounds.{Bounds}
-use Rattle.player.specs.Pane.{holds, Alike}
+use Rattle.player.specs.Pane.{ofPane, Alike}
 use Rattle.player.specs.Reply.{Reply}
 use Rattle.player.specs.Mixing.{Callable}
 
@@ -18,7 +18,7 @@ pub record Obeys (A : Callable) : Type 0 where
   -- no byte is added or lost
   pub long : (q : A .Request) (e : A .Env) (s : List ℕ) → length (A .call q e s .screen) ≡ length s
   -- no byte outside the pane changes
-  pub outside : (q : A .Request) (e : A .Env) (s : List ℕ) (k : ℕ) → k < length s → (T (holds (A .bounds e) k) → ⊥)
+  pub outside : (q : A .Request) (e : A .Env) (s : List ℕ) (k : ℕ) → k < length s → (T (ofPane (A .bounds e) k) → ⊥)
       → getD (A .call q e s .screen) k 0 ≡ getD s k 0
   -- no byte outside the pane is looked at
   pub blind : (q : A .Request) (e : A .Env) (s t : List ℕ) → Alike (A .bounds e) s t → Indistinct (A .bounds e) (A .call q e s) (A .call q e t)

@@ -15,8 +15,8 @@ abbrev pub pixel : Bounds → ℤ → ℤ → Bool
 pixel p x y = onScreen p x y && inPane p x y
 
 -- byte k of the screen shows one
-abbrev pub holds : Bounds → ℕ → Bool
-holds p k = pixel p (columnOf p k) (rowOf p k)
+abbrev pub ofPane : Bounds → ℕ → Bool
+ofPane p k = pixel p (columnOf p k) (rowOf p k)
 
 -- two panes of one screen, of which the width is enough, with no pixel in common
 pub record Apart (p q : Bounds) : Type 0 where
@@ -26,4 +26,4 @@ pub record Apart (p q : Bounds) : Type 0 where
 -- two screens of one length have the same bytes in the pane
 pub record Alike (p : Bounds) (s t : List ℕ) : Type 0 where
   pub long : length s ≡ length t
-  pub bytes : (k : ℕ) → k < length s → T (holds p k) → getD s k 0 ≡ getD t k 0
+  pub bytes : (k : ℕ) → k < length s → T (ofPane p k) → getD s k 0 ≡ getD t k 0

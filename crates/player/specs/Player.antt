@@ -3,7 +3,7 @@ use Prim.Native.Nat.{ℕ}
 use mathlib.Core.Path.{_≡_}
 use Rattle.player.specs.declared.Verdict.{Verdict}
 use Rattle.player.specs.declared.State.{State}
-use Rattle.player.specs.declared.State.the-variants.{Stopped}
+use Rattle.player.specs.declared.State.the-variants.{Running, Ended, Stopped}
 use Rattle.player.specs.Painting.{Painting}
 
 abbrev pub verdict : ℕ → Verdict
@@ -23,3 +23,18 @@ pub record Player (E : Type 0) : Type 0 where
 -- an environment that a refusal stopped is in the state that says so
 abbrev pub Stops : {E : Type 0} → Player E → Type 0
 Stops {E} P = (v : Verdict) (e : E) → P .state (P .stop v e) ≡ Stopped v
+
+-- no refusal stopped it
+abbrev pub Unstopped : State → Type 0
+Unstopped Running = Unit {0}
+Unstopped Ended = Unit {0}
+Unstopped (Stopped v) = ⊥
+
+-- an opcode that is carried out leaves it so
+abbrev pub LeavesUnstopped : {E : Type 0} → Player E → Outcome E → Type 0
+LeavesUnstopped P (done e' p) = Unstopped (P .state e')
+LeavesUnstopped P (refused v) = Unit {0}
+
+-- only a refusal stops
+abbrev pub OnlyRefusalsStop : {E : Type 0} → Player E → Type 0
+OnlyRefusalsStop {E} P = (e : E) → P .state e ≡ Running → LeavesUnstopped P (P .step e)

@@ -17,6 +17,10 @@ pub record Promised (A : Callable) : Type 1 where
   pub true-to : (q : A .Request) (h : Held) (s : List ℕ) (r : Reply Held (A .Told)) → Promise q h s r
       → record { got = viewed view (r .got); screen = r .screen } ≡ A .call q (view h) s
 
+-- whatever it is asked, the program has some reply that keeps its promise
+abbrev pub Answers : {A : Callable} → Promised A → Type 0
+Answers {A} F = (q : A .Request) (h : F .Held) (s : List ℕ) → (r : Reply (F .Held) (A .Told)) × F .Promise q h s r
+
 -- x is left of a mixing of calls of two programs that kept their promises, whatever else they did
 abbrev pub Happened : (A B : Callable) (F : Promised A) (G : Promised B) → Mix A B → F .Held → G .Held → List ℕ → Mixed A B → Type 0
 Happened A B F G [] a b s x = x ≡ record { got₁ = []; got₂ = []; screen = s }

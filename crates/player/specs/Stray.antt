@@ -1,8 +1,9 @@
--- Sides that stray from their pane, each in one way.
+-- Sides that stray from their pane, each in one way; and one that stops itself.
 use Prim.Native.Nat.{ℕ}
 use lib.ListN.{getD, take}
-use Rattle.player.specs.declared.State.the-variants.{Running}
-use Rattle.player.specs.Player.{Outcome, done}
+use Rattle.player.specs.declared.State.the-variants.{Running, Stopped}
+use Rattle.player.specs.Painting.{nothing}
+use Rattle.player.specs.Player.{verdict, Outcome, done}
 use Rattle.player.specs.Mixing.{Callable}
 use Rattle.player.specs.Toy.{Env, fresh, past, fill}
 
@@ -35,3 +36,7 @@ loses =
       bounds = λ e. e .frame .bounds;
       call = λ q e s. record { got = record { told = 0; env = e }; screen = take 14 s };
     }
+
+-- words that are carried out, and leave the environment stopped all the same
+abbrev pub halts : ℕ → Env → Outcome Env
+halts c e = done (past (e .frame) (Stopped (verdict 20)) e) (nothing (e .frame))

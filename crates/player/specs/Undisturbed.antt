@@ -4,7 +4,7 @@ use mathlib.Core.Path.{_≡_}
 use mathlib.Core.List.{List}
 use lib.Dec.{T}
 use lib.ListN.{length, getD}
-use Rattle.player.specs.Pane.{holds, Alike}
+use Rattle.player.specs.Pane.{ofPane, Alike}
 use Rattle.player.specs.Mixing.{Callable, Alone, alone, Mix, ones, twos, Mixed}
 
 -- x is left of calls that began with the environments a and b and the screen s, and y and z are what the two sides have alone
@@ -16,7 +16,7 @@ pub record AsAlone (A B : Callable) (a : A .Env) (b : B .Env) (s : List ℕ) (x 
   pub pane₁ : Alike (A .bounds a) (x .screen) (y .screen)
   pub pane₂ : Alike (B .bounds b) (x .screen) (z .screen)
   -- no byte outside the panes changes, and none is added or lost
-  pub others : (k : ℕ) → k < length s → (T (holds (A .bounds a) k) → ⊥) → (T (holds (B .bounds b) k) → ⊥) → getD (x .screen) k 0 ≡ getD s k 0
+  pub others : (k : ℕ) → k < length s → (T (ofPane (A .bounds a) k) → ⊥) → (T (ofPane (B .bounds b) k) → ⊥) → getD (x .screen) k 0 ≡ getD s k 0
   pub long : length (x .screen) ≡ length s
 
 -- x is left of the mixing m, and neither side was disturbed
