@@ -1,11 +1,11 @@
 -- Document 01's cases, as far as they are about numbers and places: the definitions give what the cases say.
 use mathlib.Core.Path.{_≡_, refl}
+use mathlib.Core.Bool.{true, false}
 use lib.IntN.{pos, negsuc, _+ℤ_}
 use Rattle.numbers.specs.Number.{signed32, signed16, low32, longOf, sum32, quotient32, remainder32}
 use Rattle.numbers.specs.Coordinate.{inWord, coordinate}
-use Rattle.numbers.specs.Place.{varOf, indexOf, wordOf}
+use Rattle.numbers.specs.Place.{above, indexOf, wordOf}
 use Rattle.numbers.specs.declared.coordinate.Coordinate.the-variants.{Outside}
-use Rattle.numbers.specs.declared.place.Named.the-variants.{Var, Above}
 use Rattle.numbers.specs.declared.place.Target.the-variants.{At, Refused}
 
 -- 2,147,483,647 and 1 more
@@ -28,9 +28,10 @@ least-by-minus-one : (quotient32 0x8000_0000 0xffff_ffff ≡ 0x8000_0000) × (re
 unfolding signed32 low32 quotient32 remainder32
 least-by-minus-one = (refl, refl)
 
-case-7 : (varOf 0x40 ≡ Above) × (varOf 0x3f ≡ Var (record { 0 = 63 }))
-unfolding varOf
-case-7 = (refl, refl)
+-- V64 is above 63, V63 is not, and V61 is with three followers
+case-7 : (above (record { 0 = 0x40 }) 1 ≡ true) × (above (record { 0 = 0x3f }) 1 ≡ false) × (above (record { 0 = 61 }) 4 ≡ true)
+unfolding above
+case-7 = (refl, refl, refl)
 
 -- the next opcode's index is 2, the offset -2
 case-11 : indexOf (pos 2 +ℤ signed32 (low32 (signed16 0xfffe))) 2 ≡ At (record { 0 = 0 })

@@ -1,33 +1,39 @@
--- Variable numbers, word indices and bit addresses: what an answer tells, and that address and index give each other back.
+-- Word indices and bit addresses: what a target tells, that an index and its address give each other back, and how far an offset goes.
 use Prim.Native.Nat.{ℕ, suc, _+_, _-_, _*_, _/_, _%_, _^_, _<_, _≤_}
-use mathlib.Core.Path.{_≡_, sym, ap}
+use mathlib.Core.Path.{_≡_, refl, sym, ap}
+use mathlib.Core.Bool.{Bool, true, false}
 use native.Mathlib.Omega.{arith}
 use borrow.Author.Tests.{ltb-true, ltb-false, eqb-true, eq-eqb, lt-ltb, le-ltb}
 use lib.Dec.{ltb, eqb}
 use lib.IntN.{ℤ, pos, negsuc, _+ℤ_}
 use Rattle.numbers.specs.Number.{signed32}
-use Rattle.numbers.specs.Place.{varOf, indexOf, wordOf, addressOf}
+use Rattle.numbers.specs.Place.{above, indexOf, wordOf}
 use Rattle.numbers.specs.declared.place.VarNo.{VarNo}
 use Rattle.numbers.specs.declared.place.WordIndex.{WordIndex}
 use Rattle.numbers.specs.declared.place.BitAddress.{BitAddress}
-use Rattle.numbers.specs.declared.place.Named.the-variants.{Var, Above}
 use Rattle.numbers.specs.declared.place.Target.the-variants.{At}
-use Rattle.numbers.specs.declared.place.Address.the-variants.{Bit}
-use Rattle.numbers.proofs.Answers.{told-first, told-second, clash}
+use Rattle.numbers.proofs.Answers.{told-first, clash}
 use Rattle.numbers.proofs.Bits.{signed-pos, signed-neg}
 
--- ---- a word that names a variable
+-- ---- variables from v on
 
-pub named : (n : ℕ) (v : VarNo) → varOf n ≡ Var v → (n < 64) × (v .0 ≡ n)
-unfolding varOf
-named n v e =
-    let t = told-second (ltb 63 n) (λ a. clash (cc)) e in
-    let q : _≡_ {A = VarNo} (record { 0 = n }) v = cc in
-    (omega (arith, ltb-false 63 n (t .0)), sym (ap (λ (x : VarNo). x .0) q))
+module _ (v : VarNo) (n : ℕ) where
+  pub is-above : above v n ≡ true → 63 < v .0 + (n - 1)
+  unfolding above
+  is-above h = ltb-true _ _ h
 
-pub unnamed : (n : ℕ) → varOf n ≡ Above → 63 < n
-unfolding varOf
-unnamed n e = ltb-true 63 n (told-first (ltb 63 n) (λ v. clash (cc)) e .0)
+  pub not-above : above v n ≡ false → v .0 + (n - 1) ≤ 63
+  unfolding above
+  not-above h = ltb-false _ _ h
+
+  -- as the program compares, without a sum
+  pub above-is : 1 ≤ n → n ≤ 64 → ltb (64 - n) (v .0) ≡ above v n
+  unfolding above
+  above-is one most = go (ltb (64 - n) (v .0)) refl
+    where
+      go : (t : Bool) → ltb (64 - n) (v .0) ≡ t → t ≡ ltb 63 (v .0 + (n - 1))
+      go true h = sym (lt-ltb 63 (v .0 + (n - 1)) (omega (arith, one, most, ltb-true (64 - n) (v .0) h)))
+      go false h = sym (le-ltb 63 (v .0 + (n - 1)) (omega (arith, one, most, ltb-false (64 - n) (v .0) h)))
 
 -- ---- a target: below the length, a multiple of 16
 
@@ -48,25 +54,11 @@ at-word a words w e =
     let k : a .0 / 16 ≡ w .0 = cc in
     (omega (arith, eqb-true (a .0 % 16) 0 (t .0)), i .1)
 
+-- and back: the address of a word of the list is a target
 pub word-of : (w : WordIndex) (words : ℕ) → w .0 < words → wordOf (record { 0 = 16 * w .0 }) words ≡ At w
 unfolding wordOf indexOf
 word-of w words h =
     rw (eq-eqb (16 * w .0 % 16) 0 (omega arith), lt-ltb (16 * w .0 / 16) words (omega arith)) (ap (λ (k : ℕ). At (record { 0 = k })) (omega arith))
-
--- ---- address and index give each other back
-
-pub there-and-back : (w : WordIndex) (b : BitAddress) (words : ℕ) → w .0 < words → addressOf w ≡ Bit b → wordOf b words ≡ At w
-unfolding addressOf
-there-and-back w b words h e =
-    let t = told-first (ltb (16 * w .0) (2 ^ 32)) (λ y. clash (cc)) e in
-    let q : _≡_ {A = BitAddress} (record { 0 = 16 * w .0 }) b = cc in
-    rw (← q) (word-of w words h)
-
-pub back-and-there : (b : BitAddress) (words : ℕ) (w : WordIndex) → b .0 < 2 ^ 32 → wordOf b words ≡ At w → addressOf w ≡ Bit b
-unfolding addressOf
-back-and-there b words w h e =
-    let i = at-word b words w e in
-    rw (lt-ltb (16 * w .0) (2 ^ 32) (omega arith)) (ap (λ (k : ℕ). Bit (record { 0 = k })) (sym (i .0)))
 
 -- ---- an index s plus the offset of bits n: forward, back, and back too far
 

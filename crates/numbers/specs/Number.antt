@@ -19,6 +19,10 @@ signed16 n = cond (ltb n (2 ^ 15)) (pos n) (pos n -ℤ pos (2 ^ 16))
 abbrev pub longOf : ℕ → ℕ → ℕ
 longOf low high = low + 2 ^ 16 * high
 
+-- the low 8 bits
+abbrev pub low8 : ℕ → ℕ
+low8 n = n % 256
+
 -- the low 32 bits in two's complement: a whole number modulo 2^32 (negsuc n is -(n + 1))
 unfoldable pub low32 : ℤ → ℕ
 low32 (pos n) = n % 2 ^ 32

@@ -31,7 +31,8 @@ pub fn coordinate_of(v: u32) -> Coordinate
     judge(to_signed(v) as i64)
 }
 
-pub fn moved(at: i32, by: i32) -> Coordinate
+// A coordinate shifted by an offset.
+pub fn shifted(at: i32, by: i32) -> Coordinate
     ensures { λ r. ⌜ r ≡ coordinate (at +ℤ by) ⌝ }
 {
     judge((at as i64) + (by as i64))

@@ -1,21 +1,18 @@
-// A variable's number, a word's index in the list and a bit address, with the checked ways from one to another.
+// A variable's number, a word's index in the list and a bit address, with the checked way from an address to an index.
 ghost use mathlib.Core.Path.{_≡_};
+ghost use Prim.Native.Nat.{_+_, _^_, _<_, _≤_};
 ghost use lib.IntN.{pos, _+ℤ_};
 ghost use Rattle.numbers.specs.Number.{signed32};
-ghost use Rattle.numbers.specs.Place.{varOf, indexOf, wordOf, addressOf};
+ghost use Rattle.numbers.specs.Place as Place;
+ghost use Rattle.numbers.specs.Place.{indexOf, wordOf};
 
-pub struct VarNo(pub u8);
+// What a word names, a variable or none.
+pub struct VarNo(pub u16);
 
 #[repr(C)]
 pub struct WordIndex(pub u32);
 
 pub struct BitAddress(pub u32);
-
-// What a word names.
-pub enum Named {
-    Var(VarNo),
-    Above,
-}
 
 // Where a jump or a call goes.
 pub enum Target {
@@ -23,19 +20,21 @@ pub enum Target {
     Refused,
 }
 
-// Where a word begins; past 2^28 words an address takes more than 32 bits.
-pub enum Address {
-    Bit(BitAddress),
-    Beyond,
+// Whether the last of n variables from v on is above 63.
+pub fn above(v: VarNo, n: u16) -> bool
+    requires { ⌜ (1 ≤ n) × (n ≤ 64) ⌝ }
+    ensures { λ r. ⌜ r ≡ Place.above v n ⌝ }
+{
+    64 - n < v.0
 }
 
-pub fn var_no(word: u16) -> Named
-    ensures { λ r. ⌜ r ≡ varOf word ⌝ }
-{
-    if word > 63 {
-        Named::Above
-    } else {
-        Named::Var(VarNo(word as u8))
+impl WordIndex {
+    // The index n words further on.
+    pub fn past(self, n: u32) -> WordIndex
+        requires { ⌜ self .0 + n < 2 ^ 32 ⌝ }
+        ensures { λ r. ⌜ r .0 ≡ self .0 + n ⌝ }
+    {
+        WordIndex(self.0 + n)
     }
 }
 
@@ -71,15 +70,4 @@ pub fn word_from(next: WordIndex, offset: u32, words: u32) -> Target
         return Target::Refused;
     }
     index(sum - 0x1_0000_0000, words)
-}
-
-pub fn address_of(w: WordIndex) -> Address
-    ensures { λ r. ⌜ r ≡ addressOf w ⌝ }
-{
-    let bits = 16 * (w.0 as u64);
-    if bits < 0x1_0000_0000 {
-        Address::Bit(BitAddress(bits as u32))
-    } else {
-        Address::Beyond
-    }
 }

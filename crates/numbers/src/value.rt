@@ -1,6 +1,7 @@
-// The value of 32 bits and the bits of a value; a word read as signed; a long.
+// The value of 32 bits and the bits of a value; a word read as signed; a long; a byte.
 ghost use mathlib.Core.Path.{_≡_};
 ghost use Rattle.numbers.specs.Number.{signed32, signed16, low32, longOf};
+ghost use Rattle.numbers.specs.Number as Number;
 
 pub fn to_signed(bits: u32) -> i32
     ensures { λ r. ⌜ r ≡ signed32 bits ⌝ }
@@ -30,8 +31,15 @@ pub fn extend(word: u16) -> u32
     ((raised + 0xffff_8000) % 0x1_0000_0000) as u32
 }
 
-pub fn long(low: u16, high: u16) -> u32
+pub fn long_of(low: u16, high: u16) -> u32
     ensures { λ r. ⌜ r ≡ longOf low high ⌝ }
 {
     (low as u32) + 0x1_0000 * (high as u32)
+}
+
+// A colour is the low 8 bits.
+pub fn low8(bits: u32) -> u8
+    ensures { λ r. ⌜ r ≡ Number.low8 bits ⌝ }
+{
+    (bits % 256) as u8
 }

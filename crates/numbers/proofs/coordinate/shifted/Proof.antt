@@ -1,11 +1,11 @@
--- `moved`: the sum is judged in 64 bits, where it fits.
+-- `shifted`: the sum is judged in 64 bits, where it fits.
 use mathlib.Core.Path.{_∙_, ap}
 use borrow.Author.Needs.{needs}
 use mir.Facts.{toZ-ofZ}
 use Rattle.numbers.specs.Coordinate.{coordinate}
 use Rattle.numbers.proofs.Machine.{wide, wide-back, sum-fits}
-use Rattle.numbers.proofs.coordinate.moved.Statement.{statement}
-use Rattle.numbers.proofs.coordinate.moved.Tie as tie
+use Rattle.numbers.proofs.coordinate.shifted.Statement.{statement}
+use Rattle.numbers.proofs.coordinate.shifted.Tie as tie
 
 cast-judge : tie.Need-cast-judge
 cast-judge c = wide (c .fits .at)
@@ -25,5 +25,5 @@ returns c =
     let s = c .before in
     c .judge .ensures ∙ ap coordinate (toZ-ofZ (add-judge s) ∙ rw (wide-back (s .fits .at), wide-back (s .fits .by)))
 
-pub moved-spec : {M : Type 1} → statement M
-moved-spec = tie.close (tie.spec cast-judge cast-judge-2 add-judge judge-requires returns)
+pub shifted-spec : {M : Type 1} → statement M
+shifted-spec = tie.close (tie.spec cast-judge cast-judge-2 add-judge judge-requires returns)
