@@ -12,7 +12,9 @@ use Rattle.player.specs.Undisturbed.{Undisturbed}
 use Rattle.player.specs.Hosted.{callable}
 use Rattle.player.specs.Keeps.{Stays, Keeps}
 use Rattle.player.proofs.Hosts
-use Rattle.rules.specs.Types.{Target, At, Refused, Bounds, Operands, Op, Noop, End, Load, Add, And, Or, Multiply, Divide, Remainder, Increment, Decrement, Compare, Jump, JumpBy, Call, CallBy, Return, ClipMode, ClipWindow, Colour, MoveTo, MoveBy, Pixel, PixelColour, Line, LineTo, LineBy, Clear, Form, Unknown, Known}
+use Rattle.rules.specs.Types.{Target, At, Refused, Bounds, Operands}
+use Rattle.rules.specs.Op as Op
+use Rattle.rules.specs.Meaning.{Meaning, Unknown, Known, meaning}
 use Rattle.rules.specs.Table.{formOf}
 use Rattle.rules.specs.Operands.{at}
 use Rattle.rules.specs.Environment.{Env, pushed}
@@ -32,37 +34,37 @@ jumped : (taken : Bool) (t : Target) (e : Env) → cond taken (reach t e) e .bou
 jumped true t e = reached t e
 jumped false t e = refl
 
-rule-keeps : (op : Op) (o : Operands) (n : ℕ) (e : Env) → rule op o n e .env .bounds ≡ e .bounds
-rule-keeps Noop o n e = refl
-rule-keeps End o n e = refl
-rule-keeps Load o n e = refl
-rule-keeps Add o n e = refl
-rule-keeps And o n e = refl
-rule-keeps Or o n e = refl
-rule-keeps Multiply o n e = refl
-rule-keeps Divide o n e = refl
-rule-keeps Remainder o n e = refl
-rule-keeps Increment o n e = refl
-rule-keeps Decrement o n e = refl
-rule-keeps Compare o n e = refl
-rule-keeps Jump o n e = jumped (taken (o .a) e) (absolute (o .b) n) e
-rule-keeps JumpBy o n e = jumped (taken (o .a) e) (relative (o .b) e n) e
-rule-keeps Call o n e = reached (absolute (o .a) n) (pushed (e .flow .counter) e)
-rule-keeps CallBy o n e = reached (relative (o .a) e n) (pushed (e .flow .counter) e)
-rule-keeps Return o n e = refl
-rule-keeps ClipMode o n e = refl
-rule-keeps ClipWindow o n e = refl
-rule-keeps Colour o n e = refl
-rule-keeps MoveTo o n e = refl
-rule-keeps MoveBy o n e = refl
-rule-keeps Pixel o n e = refl
-rule-keeps PixelColour o n e = refl
-rule-keeps Line o n e = refl
-rule-keeps LineTo o n e = refl
-rule-keeps LineBy o n e = refl
-rule-keeps Clear o n e = refl
+rule-keeps : (op : Op.Op) (o : Operands) (n : ℕ) (e : Env) → rule op o n e .env .bounds ≡ e .bounds
+rule-keeps Op.Noop o n e = refl
+rule-keeps Op.End o n e = refl
+rule-keeps Op.Load o n e = refl
+rule-keeps Op.Add o n e = refl
+rule-keeps Op.And o n e = refl
+rule-keeps Op.Or o n e = refl
+rule-keeps Op.Multiply o n e = refl
+rule-keeps Op.Divide o n e = refl
+rule-keeps Op.Remainder o n e = refl
+rule-keeps Op.Increment o n e = refl
+rule-keeps Op.Decrement o n e = refl
+rule-keeps Op.Compare o n e = refl
+rule-keeps Op.Jump o n e = jumped (taken (o .a) e) (absolute (o .b) n) e
+rule-keeps Op.JumpBy o n e = jumped (taken (o .a) e) (relative (o .b) e n) e
+rule-keeps Op.Call o n e = reached (absolute (o .a) n) (pushed (e .flow .counter) e)
+rule-keeps Op.CallBy o n e = reached (relative (o .a) e n) (pushed (e .flow .counter) e)
+rule-keeps Op.Return o n e = refl
+rule-keeps Op.ClipMode o n e = refl
+rule-keeps Op.ClipWindow o n e = refl
+rule-keeps Op.Colour o n e = refl
+rule-keeps Op.MoveTo o n e = refl
+rule-keeps Op.MoveBy o n e = refl
+rule-keeps Op.Pixel o n e = refl
+rule-keeps Op.PixelColour o n e = refl
+rule-keeps Op.Line o n e = refl
+rule-keeps Op.LineTo o n e = refl
+rule-keeps Op.LineBy o n e = refl
+rule-keeps Op.Clear o n e = refl
 
-ruled-keeps : (f : Form) (w : List ℕ) (e : Env) → ruled f w e .env .bounds ≡ e .bounds
+ruled-keeps : (m : Meaning) (w : List ℕ) (e : Env) → ruled m w e .env .bounds ≡ e .bounds
 ruled-keeps Unknown w e = refl
 ruled-keeps (Known op s) w e = rule-keeps op _ _ _
 
@@ -71,13 +73,13 @@ checked : (n : ℕ) (b : Bool) (e : Env) (x : Outcome Env) → Stays bounds e x 
 checked n true e x h = tt
 checked n false e x h = h
 
-stays : (f : Form) (r : Rule) (w : List ℕ) (e : Env) → r .env .bounds ≡ e .bounds → Stays bounds e (judged f r w e)
+stays : (m : Meaning) (r : Rule) (w : List ℕ) (e : Env) → r .env .bounds ≡ e .bounds → Stays bounds e (judged m r w e)
 unfolding carried
-stays f r w e h =
-    checked 20 (leb (length w) (e .flow .counter)) e _
-    (checked 21 (unknown f) e _
-    (checked 22 (cut f w (e .flow .counter)) e _
-    (checked 23 (misnamed f w (e .flow .counter)) e _
+stays m r w e h =
+    checked 20 (leb (length w) (e .flow .counter .0)) e _
+    (checked 21 (unknown m) e _
+    (checked 22 (cut m w (e .flow .counter .0)) e _
+    (checked 23 (misnamed m w (e .flow .counter .0)) e _
     (checked 24 (r .breaks 24) e _
     (checked 25 (r .breaks 25) e _
     (checked 26 (r .breaks 26) e _
@@ -87,10 +89,10 @@ stays f r w e h =
 
 pub keeps : (w : List ℕ) → Keeps bounds (afgis w)
 unfolding step
-keeps w = record { steps = λ e. at-form (formOf (at w (e .flow .counter))) e; stops = λ v e. refl }
+keeps w = record { steps = λ e. at-meaning (meaning (formOf (at w (e .flow .counter .0)))) e; stops = λ v e. refl }
   where
-    at-form : (f : Form) (e : Env) → Stays bounds e (judged f (ruled f w e) w e)
-    at-form f e = stays f (ruled f w e) w e (ruled-keeps f w e)
+    at-meaning : (m : Meaning) (e : Env) → Stays bounds e (judged m (ruled m w e) w e)
+    at-meaning m e = stays m (ruled m w e) w e (ruled-keeps m w e)
 
 -- ---- demand 3
 module _ (a b : Env) (apart : Apart (a .bounds) (b .bounds)) (s : List ℕ) where

@@ -1,4 +1,4 @@
--- Document 01, 'Cases, whole answers': the starred cases with their variants, as one table of whole answers; and some edges.
+-- Document 01, 'Cases, whole answers': the starred cases with their variants, as one table of whole answers; some edges; and the seven conditions.
 use Prim.Native.Nat.{ℕ, _-_, _^_}
 use mathlib.Core.Path.{_≡_, refl}
 use mathlib.Core.List.{List, [], _∷_, map}
@@ -17,7 +17,8 @@ use Rattle.player.specs.Hosted.{answered}
 use Rattle.player.specs.Door.{doorOf}
 use Rattle.rules.specs.Types.{Bounds, Running, Ended, Stopped}
 use Rattle.rules.specs.Table.{formOf}
-use Rattle.rules.specs.Environment.{Env, env, put, clipped, windowed, goto, stacked, turned}
+use Rattle.rules.specs.Conditions.{allowed, met}
+use Rattle.rules.specs.Environment.{Env, env, start, put, clipped, windowed, goto, stacked, stated, compared}
 use Rattle.rules.specs.Step.{carried, step}
 use Rattle.rules.specs.Door.{door, whole}
 use Rattle.rules.specs.Fresh.{fresh}
@@ -35,12 +36,18 @@ e₂ = fresh (bounds 2)
 abbrev pub blank : List ℕ
 blank = replicate 15 0
 
--- ---- what is wanted: stopped with a number, ended at a counter, and a variable's bits where its value is -n
+-- ---- what is wanted: the counter at word n, Vn with a value, stopped with a number, ended at word n, and a variable's bits where its value is -n
+abbrev pub at : ℕ → Env → Env
+at n e = goto (record { 0 = n }) e
+
+abbrev pub var : ℕ → ℕ → Env → Env
+var n v e = put (record { 0 = n }) v e
+
 abbrev pub stopped : ℕ → Env → Env
-stopped n e = turned (Stopped (verdict n)) e
+stopped n e = stated (Stopped (verdict n)) e
 
 abbrev pub ended : ℕ → Env → Env
-ended n e = goto n (turned Ended e)
+ended n e = at n (stated Ended e)
 
 abbrev pub minus : ℕ → ℕ
 minus n = 2 ^ 32 - n
@@ -88,18 +95,18 @@ cases =
     case [] 20 (stopped 20 e₀) 0 ∷  -- 1
     case (0x0001 ∷ []) 0 (ended 1 e₀) 1 ∷  -- 2
     within 0 (case (0x0001 ∷ []) 1 e₀ 0) ∷
-    case (0x0066 ∷ 0xFFFF ∷ 0x7FFF ∷ 0x0000 ∷ 0x005D ∷ 0x0000 ∷ 0x0001 ∷ []) 0 (ended 7 (put 0 (minus 2147483648) e₀)) 3 ∷  -- 3
-    case (0x0066 ∷ 0x0000 ∷ 0x0001 ∷ 0x0005 ∷ 0x0083 ∷ 0x0004 ∷ 0x0001 ∷ []) 25 (stopped 25 (goto 4 (put 5 65536 e₀))) 1 ∷  -- 4
-    case (sevenByTwo 0x0045) 0 (ended 10 (put 0 (minus 3) (put 1 2 e₀))) 4 ∷  -- 5
-    case (sevenByTwo 0x0081) 0 (ended 10 (put 0 (minus 1) (put 1 2 e₀))) 4 ∷
+    case (0x0066 ∷ 0xFFFF ∷ 0x7FFF ∷ 0x0000 ∷ 0x005D ∷ 0x0000 ∷ 0x0001 ∷ []) 0 (ended 7 (var 0 (minus 2147483648) e₀)) 3 ∷  -- 3
+    case (0x0066 ∷ 0x0000 ∷ 0x0001 ∷ 0x0005 ∷ 0x0083 ∷ 0x0004 ∷ 0x0001 ∷ []) 25 (stopped 25 (at 4 (var 5 65536 e₀))) 1 ∷  -- 4
+    case (sevenByTwo 0x0045) 0 (ended 10 (var 0 (minus 3) (var 1 2 e₀))) 4 ∷  -- 5
+    case (sevenByTwo 0x0081) 0 (ended 10 (var 0 (minus 1) (var 1 2 e₀))) 4 ∷
     case (0x0045 ∷ 0x0001 ∷ 0x0000 ∷ []) 26 (stopped 26 e₀) 0 ∷  -- 6
     case (0x0003 ∷ 0x0040 ∷ 0x0000 ∷ []) 23 (stopped 23 e₀) 0 ∷  -- 7
-    case (0x0003 ∷ 0x003F ∷ 0x0000 ∷ []) 20 (stopped 20 (goto 3 e₀)) 1 ∷
+    case (0x0003 ∷ 0x003F ∷ 0x0000 ∷ []) 20 (stopped 20 (at 3 e₀)) 1 ∷
     case (0x0066 ∷ 0x0000 ∷ []) 22 (stopped 22 e₀) 0 ∷  -- 8
     shows e₀ sloped (case slope 0 (ended 7 e₀) 2) ∷  -- 9
     shows e₂ slopedIn (case slope 0 (ended 7 e₂) 2) ∷  -- 10
-    case (0x010E ∷ 0xFFFE ∷ []) 28 (stopped 28 (stacked (replicate 16 2) e₀)) 16 ∷  -- 11
-    within 16 (case (0x010E ∷ 0xFFFE ∷ []) 1 (stacked (replicate 16 2) e₀) 16) ∷
+    case (0x010E ∷ 0xFFFE ∷ []) 28 (stopped 28 (stacked (replicate 16 (record { 0 = 2 })) e₀)) 16 ∷  -- 11
+    within 16 (case (0x010E ∷ 0xFFFE ∷ []) 1 (stacked (replicate 16 (record { 0 = 2 })) e₀) 16) ∷
     case (0x000E ∷ 0x0008 ∷ 0x0000 ∷ []) 27 (stopped 27 e₀) 0 ∷  -- 12
     []
 
@@ -121,8 +128,49 @@ edges =
     0 ∷ 7 ∷ 7 ∷ 7 ∷ 0 ∷
     0 ∷ 0 ∷ 0 ∷ 0 ∷ 0 ∷ [])
     (case cleared 0 (ended 12 (clipped 1 (windowed (record { x0 = pos 1; y0 = pos 0; x1 = pos 3; y1 = pos 1 }) e₀))) 4) ∷
-    case wrongTwice 24 (stopped 24 (goto 7 (put 0 1 (put 1 65536 e₀)))) 2 ∷
+    case wrongTwice 24 (stopped 24 (at 7 (var 0 1 (var 1 65536 e₀)))) 2 ∷
     []
+
+-- ---- the seven conditions, in order of their numbers
+
+-- a value as a word, the high word of it as a long, and its bits in a variable
+pub record Value : Type 0 where
+  pub word : ℕ
+  pub high : ℕ
+  pub bits : ℕ
+
+abbrev pub one : Value
+one = record { word = 0x0001; high = 0x0000; bits = 1 }
+
+abbrev pub minusOne : Value
+minusOne = record { word = 0xFFFF; high = 0xFFFF; bits = minus 1 }
+
+-- V0 = a is compared with b, and JUMPR on condition k goes over a NOOP: the steps tell whether it was taken
+abbrev pub jumping : Value → Value → ℕ → ℕ → Case
+jumping a b k steps =
+    case (0x0065 ∷ a .word ∷ 0x0000 ∷ 0x0033 ∷ b .word ∷ b .high ∷ 0x0000 ∷ 0x010C ∷ k ∷ 0x0001 ∷ 0x0000 ∷ 0x0001 ∷ [])
+    0 (ended 12 (compared (a .bits) (b .bits) (var 0 (a .bits) e₀))) steps
+
+abbrev pub taken : ℕ
+taken = 4
+
+abbrev pub passed : ℕ
+passed = 5
+
+-- condition k where V0 is less, equal and greater
+abbrev pub on : ℕ → ℕ → ℕ → ℕ → List Case → List Case
+on k less equal greater cs = jumping minusOne one k less ∷ jumping one one k equal ∷ jumping one minusOne k greater ∷ cs
+
+abbrev pub conditions : List Case
+conditions =
+    on 0x0 taken taken taken  -- always
+    (on 0x4 taken passed passed  -- less
+    (on 0x5 passed taken taken  -- greater or equal
+    (on 0x6 taken taken passed  -- less or equal
+    (on 0x7 passed passed taken  -- greater
+    (on 0xA passed taken passed  -- equal
+    (on 0xB taken passed taken  -- not equal
+    []))))))
 
 abbrev pub played : Case → Answer Env
 played c = whole c.words blank c.env c.budget
@@ -135,10 +183,14 @@ pub edged : map played edges ≡ map (λ (c : Case). c.want) edges
 unfolding signed32 signed16 low32 inWord recolourFrom someBelow drawable paint line formOf carried step doorOf door answered runs
 edged = refl
 
+pub conditioned : map played conditions ≡ map (λ (c : Case). c.want) conditions
+unfolding signed32 signed16 low32 allowed met inWord indexOf recolourFrom drawable paint formOf carried step doorOf door answered runs
+conditioned = refl
+
 -- the fresh environment, field by field
 pub fresh-fields : e₀
     ≡ env (bounds 0) (replicate 64 0)
     (record { position = record { x = pos 0; y = pos 0 }; colour = 15; mode = 0; window = record { x0 = pos 0; y0 = pos 0; x1 = pos 4; y1 = pos 2 } })
-    (record { counter = 0; stack = []; first = 0; second = 0 })
+    (record { counter = start; stack = []; first = 0; second = 0 })
     Running
 fresh-fields = refl

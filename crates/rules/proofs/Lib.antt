@@ -4,6 +4,7 @@ pub mod Ranges
 pub mod Kept
 pub mod Alone
 pub mod DoorLaws
+pub mod Refusals
 pub mod Unique
 pub mod Cases
 pub mod Useless

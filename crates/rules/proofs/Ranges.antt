@@ -30,7 +30,7 @@ PenFits p =
 abbrev pub FlowFits : Flow → Type 0
 FlowFits f =
     record {
-      counter : leb (f .counter) 65536 ≡ true;
+      counter : leb (f .counter .0) 65536 ≡ true;
       depth : leb (length (f .stack)) 16 ≡ true;
       returns : indices (f .stack) ≡ true;
     }
@@ -49,7 +49,7 @@ flow-joined f h = simp (h .counter, h .depth, h .returns)
 
 flow-parted : (f : Flow) → flowFits f ≡ true → FlowFits f
 flow-parted f h =
-    let st = other (leb (f .counter) 65536) _ h in
+    let st = other (leb (f .counter .0) 65536) _ h in
     record { counter = one _ _ h; depth = one _ _ st; returns = other (leb (length (f .stack)) 16) _ st }
 
 -- ---- every field in range, by its part, with the bounds

@@ -13,7 +13,7 @@ use Rattle.player.specs.Hosted.{answered}
 use Rattle.player.specs.Door.{doorOf}
 use Rattle.rules.specs.Types.{Bounds, Running, Ended, Stopped}
 use Rattle.rules.specs.declared.environment.Env as Held
-use Rattle.rules.specs.declared.answer.Answer as Told
+use Rattle.rules.specs.declared.answer.Answer as Came
 use Rattle.rules.specs.declared.answer.Made as Made
 use Rattle.rules.specs.Environment.{Env, held, stateOf, byteOf, firsts}
 use Rattle.rules.specs.Door.{door, whole, Promise}
@@ -52,7 +52,7 @@ alike a b h =
         mode = h i .pen .mode;
         first = h i .flow .first;
         second = h i .flow .second;
-        counter = record { 0 = h i .flow .counter };
+        counter = h i .flow .counter;
         depth = depth i;
         colour = h i .pen .colour;
         state = state i;
@@ -70,13 +70,13 @@ alike a b h =
     state = sym (byte-state (a .registers .state)) ∙ (ap (λ (e : Env). byteOf (e .state)) h ∙ byte-state (b .registers .state))
 
 -- two answers, with the screens that they leave, are the same
-pub record Agree (a b : Told.Answer) (s t : List ℕ) : Type 0 where
+pub record Agree (a b : Came.Answer) (s t : List ℕ) : Type 0 where
   pub number : a .number ≡ b .number
   pub env : Alike (a .env) (b .env)
   pub screen : s ≡ t
   pub steps : a .steps ≡ b .steps
 
-pub unique : (w s₀ : List ℕ) (e : Held.Env) (budget : ℕ) (a b : Told.Answer) (s t : List ℕ)
+pub unique : (w s₀ : List ℕ) (e : Held.Env) (budget : ℕ) (a b : Came.Answer) (s t : List ℕ)
     → Promise w s₀ e budget a s → Promise w s₀ e budget b t → Agree a b s t
 unique w s₀ e budget a b s t p q =
     let r = p ∙ sym q in

@@ -38,6 +38,6 @@ tested (c ∷ cs) k a b = cond (eqb k c.number) (c .test a b) (tested cs k a b)
 unfoldable pub allowed : ℕ → Bool
 allowed k = listed conditions k
 
--- condition k holds of the two values compared
-unfoldable pub holds : ℕ → ℤ → ℤ → Bool
-holds k a b = tested conditions k a b
+-- condition k is met by the two values compared
+unfoldable pub met : ℕ → ℤ → ℤ → Bool
+met k a b = tested conditions k a b

@@ -11,9 +11,9 @@ use Rattle.player.specs.Run.{Answer, answer}
 use Rattle.player.specs.Hosted.{Request, Hosted, answered}
 use Rattle.player.specs.Door.{doorOf}
 pub use Rattle.player.specs.Door.{between, sizeFits, paneFits}
-use Rattle.rules.specs.Types.{Window, State, Running, Ended, Stopped}
+use Rattle.rules.specs.Types.{WordIndex, Window, State, Running, Ended, Stopped}
 use Rattle.rules.specs.declared.environment.Env as Held
-use Rattle.rules.specs.declared.answer.Answer as Told
+use Rattle.rules.specs.declared.answer.Answer as Came
 use Rattle.rules.specs.Environment.{Pen, Flow, Env, held}
 use Rattle.rules.specs.Step.{afgis}
 
@@ -24,12 +24,12 @@ abbrev pub windowFits : Window → Bool
 windowFits w = inWord w.x0 && inWord w.y0 && (inWord w.x1 && inWord w.y1)
 
 -- word indices, 0 to 65,536
-abbrev pub indices : List ℕ → Bool
+abbrev pub indices : List WordIndex → Bool
 indices [] = true
-indices (n ∷ ns) = leb n 65536 && indices ns
+indices (i ∷ is) = leb (i .0) 65536 && indices is
 
 -- at most 16 stacked return indices
-abbrev pub stackFits : List ℕ → Bool
+abbrev pub stackFits : List WordIndex → Bool
 stackFits st = leb (length st) 16 && indices st
 
 -- running, ended, or stopped with a number 20 to 29
@@ -44,7 +44,7 @@ penFits p = inWord (p .position .x) && (inWord (p .position .y) && (leb p.mode 2
 
 -- compared values are in range by their types
 abbrev pub flowFits : Flow → Bool
-flowFits f = leb f.counter 65536 && stackFits f.stack
+flowFits f = leb (f .counter .0) 65536 && stackFits f.stack
 
 -- every field but the size; variables are in range by their types
 abbrev pub fits : Env → Bool
@@ -62,8 +62,8 @@ abbrev pub whole : List ℕ → List ℕ → Env → ℕ → Answer Env
 whole w s e budget = answered machine (record { list = w; budget = budget }) e s
 
 -- what a run promises: its answer, with the screen that it leaves, is the whole answer
-abbrev pub said : Told.Answer → List ℕ → Answer Env
+abbrev pub said : Came.Answer → List ℕ → Answer Env
 said a s = answer (verdict a.number) (held a.env) s a.steps
 
-abbrev pub Promise : List ℕ → List ℕ → Held.Env → ℕ → Told.Answer → List ℕ → Type 0
+abbrev pub Promise : List ℕ → List ℕ → Held.Env → ℕ → Came.Answer → List ℕ → Type 0
 Promise w s e budget a t = said a t ≡ whole w s (held e) budget

@@ -6,7 +6,8 @@ use mathlib.Core.List.{List, [], _∷_, _++_}
 use lib.ListN.{length, take, set, getD}
 use lib.Dec.{eqb}
 use Rattle.player.specs.Player.{verdict}
-use Rattle.rules.specs.Types.{Bounds, Window, Frame, Dot, State, Running, Ended, Stopped, Registers}
+use Rattle.numbers.specs.Place.{past}
+use Rattle.rules.specs.Types.{VarNo, WordIndex, Bounds, Window, Frame, Dot, State, Running, Ended, Stopped, Registers}
 use Rattle.rules.specs.declared.environment.Env as Held
 
 -- how is drawn
@@ -18,8 +19,8 @@ pub record Pen : Type 0 where
 
 -- where the list goes on
 pub record Flow : Type 0 where
-  pub counter : ℕ  -- the program counter, a word index
-  pub stack : List ℕ  -- the stacked return indices, the last one at the end
+  pub counter : WordIndex  -- the program counter
+  pub stack : List WordIndex  -- the stacked return indices, the last one at the end
   pub first : ℕ  -- the two values last compared
   pub second : ℕ
 
@@ -33,6 +34,10 @@ pub record Env : Type 0 where
 abbrev pub env : Bounds → List ℕ → Pen → Flow → State → Env
 env b vs p f q = record { bounds = b; variables = vs; pen = p; flow = f; state = q }
 
+-- the index of the list's first word
+abbrev pub start : WordIndex
+start = record { 0 = 0 }
+
 -- ---- the environment with one part changed
 abbrev pub penned : Pen → Env → Env
 penned p e = env e.bounds e.variables p e.flow e.state
@@ -40,12 +45,12 @@ penned p e = env e.bounds e.variables p e.flow e.state
 abbrev pub flowed : Flow → Env → Env
 flowed f e = env e.bounds e.variables e.pen f e.state
 
-abbrev pub turned : State → Env → Env
-turned q e = env e.bounds e.variables e.pen e.flow q
+abbrev pub stated : State → Env → Env
+stated q e = env e.bounds e.variables e.pen e.flow q
 
 -- ---- with one thing changed
-abbrev pub put : ℕ → ℕ → Env → Env
-put d v e = env e.bounds (set e.variables d v) e.pen e.flow e.state
+abbrev pub put : VarNo → ℕ → Env → Env
+put d v e = env e.bounds (set e.variables (d .0) v) e.pen e.flow e.state
 
 abbrev pub moved : Dot → Env → Env
 moved p e = let k = e.pen in penned (record { position = p; colour = k.colour; mode = k.mode; window = k.window }) e
@@ -59,24 +64,28 @@ clipped m e = let k = e.pen in penned (record { position = k.position; colour = 
 abbrev pub windowed : Window → Env → Env
 windowed w e = let k = e.pen in penned (record { position = k.position; colour = k.colour; mode = k.mode; window = w }) e
 
-abbrev pub goto : ℕ → Env → Env
-goto n e = let k = e.flow in flowed (record { counter = n; stack = k.stack; first = k.first; second = k.second }) e
+abbrev pub goto : WordIndex → Env → Env
+goto i e = let k = e.flow in flowed (record { counter = i; stack = k.stack; first = k.first; second = k.second }) e
 
-abbrev pub stacked : List ℕ → Env → Env
+-- n words further on
+abbrev pub onward : ℕ → Env → Env
+onward n e = goto (past (e .flow .counter) n) e
+
+abbrev pub stacked : List WordIndex → Env → Env
 stacked st e = let k = e.flow in flowed (record { counter = k.counter; stack = st; first = k.first; second = k.second }) e
 
 abbrev pub compared : ℕ → ℕ → Env → Env
 compared a b e = let k = e.flow in flowed (record { counter = k.counter; stack = k.stack; first = a; second = b }) e
 
 -- one return more on the stack, one less, and the last one
-abbrev pub pushed : ℕ → Env → Env
-pushed n e = stacked (e .flow .stack ++ (n ∷ [])) e
+abbrev pub pushed : WordIndex → Env → Env
+pushed i e = stacked (e .flow .stack ++ (i ∷ [])) e
 
 abbrev pub popped : Env → Env
 popped e = stacked (take (length (e .flow .stack) - 1) (e .flow .stack)) e
 
-abbrev pub top : Env → ℕ
-top e = getD (e .flow .stack) (length (e .flow .stack) - 1) 0
+abbrev pub top : Env → WordIndex
+top e = getD (e .flow .stack) (length (e .flow .stack) - 1) start
 
 -- what may be drawn on: screen and pane, mode and window
 abbrev pub frame : Env → Frame
@@ -94,19 +103,19 @@ byteOf Ended = 1
 byteOf (Stopped v) = v.number
 
 -- the first n of a list, and 0 for each that it lacks: so n is the length, whatever the list
-unfoldable pub firsts : ℕ → List ℕ → List ℕ
+unfoldable pub firsts : ℕ → List WordIndex → List WordIndex
 firsts zero xs = []
-firsts (suc n) [] = 0 ∷ firsts n []
+firsts (suc n) [] = start ∷ firsts n []
 firsts (suc n) (x ∷ xs) = x ∷ firsts n xs
 
 abbrev pub penOf : Registers → Pen
 penOf r = record { position = r.position; colour = r.colour; mode = r.mode; window = r.window }
 
 -- what lies past the last return stacked is no part of it
-abbrev pub flowOf : Registers → List ℕ → Flow
-flowOf r st = record { counter = r .counter .0; stack = firsts r.depth st; first = r.first; second = r.second }
+abbrev pub flowOf : Registers → List WordIndex → Flow
+flowOf r st = record { counter = r.counter; stack = firsts r.depth st; first = r.first; second = r.second }
 
-abbrev pub view : Bounds → Registers → List ℕ → List ℕ → Env
+abbrev pub view : Bounds → Registers → List ℕ → List WordIndex → Env
 view b r vs st = env b vs (penOf r) (flowOf r st) (stateOf r.state)
 
 abbrev pub held : Held.Env → Env

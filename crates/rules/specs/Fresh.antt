@@ -6,8 +6,8 @@ use mathlib.Core.List.{[]}
 use lib.ListN.{replicate}
 use lib.IntN.{pos}
 use Rattle.rules.specs.Types.{Bounds, Dot, Window, Running}
-use Rattle.rules.specs.declared.answer.Made as Told
-use Rattle.rules.specs.Environment.{Env, env, held}
+use Rattle.rules.specs.declared.answer.Made as Came
+use Rattle.rules.specs.Environment.{Env, env, start, held}
 use Rattle.rules.specs.Door.{sizeFits, paneFits}
 
 abbrev pub origin : Dot
@@ -22,7 +22,7 @@ abbrev pub blank : Bounds → ℕ → Window → Env
 blank b colour w =
     env b (replicate 64 0)
     (record { position = origin; colour = colour; mode = 0; window = w })
-    (record { counter = 0; stack = []; first = 0; second = 0 })
+    (record { counter = start; stack = []; first = 0; second = 0 })
     Running
 
 -- colour 15, clip mode 0, clip window the whole screen
@@ -48,5 +48,5 @@ made b = cond (sizeFits b) (cond (paneFits b) (making 0 (fresh b)) (making 12 ze
 
 -- ---- what the making promises
 
-abbrev pub Promise : Bounds → Told.Made → Type 0
+abbrev pub Promise : Bounds → Came.Made → Type 0
 Promise b m = making m.number (held m.env) ≡ made b

@@ -1,19 +1,20 @@
 -- Document 01, 'Opcodes of the base': what each op does, one clause an op. A clause finds the counter at the next opcode.
-use Prim.Native.Nat.{ℕ, _%_}
+use Prim.Native.Nat.{ℕ}
 use mathlib.Core.Bool.{Bool, true, false, cond, not, _&&_, _||_}
 use lib.ListN.{length}
 use lib.Dec.{ltb, leb, eqb}
 use lib.Bits.{bitAnd, bitOr}
 use lib.IntN.{ℤ, pos, _+ℤ_}
-use Rattle.numbers.specs.Number.{signed32, sum32, difference32, product32, quotient32, remainder32}
+use Rattle.numbers.specs.Number.{signed32, low8, sum32, difference32, product32, quotient32, remainder32}
 use Rattle.numbers.specs.Coordinate.{inWord}
 use Rattle.numbers.specs.Place.{wordOf, indexOf}
 use Rattle.raster.specs.Shapes.{Shape, dot, all}
 use Rattle.raster.specs.Line.{line}
-use Rattle.rules.specs.Types.{Target, At, Refused, Dot, Window, Operands, Op, Noop, End, Load, Add, And, Or, Multiply, Divide, Remainder, Increment, Decrement, Compare, Jump, JumpBy, Call, CallBy, Return, ClipMode, ClipWindow, Colour, MoveTo, MoveBy, Pixel, PixelColour, Line, LineTo, LineBy, Clear, Ended}
+use Rattle.rules.specs.Types.{Target, At, Refused, Dot, Window, Operands, Ended}
+use Rattle.rules.specs.Op as Op
 use Rattle.rules.specs.Operands.{at}
-use Rattle.rules.specs.Environment.{Env, put, moved, coloured, clipped, windowed, compared, goto, turned, pushed, popped, top}
-use Rattle.rules.specs.Conditions.{allowed, holds}
+use Rattle.rules.specs.Environment.{Env, put, moved, coloured, clipped, windowed, compared, goto, stated, pushed, popped, top}
+use Rattle.rules.specs.Conditions.{allowed, met}
 
 -- ---- what an op says: which of 24 to 29 it breaks, the environment after it, which dots it paints and in which colour
 pub record Rule : Type 0 where
@@ -40,10 +41,7 @@ abbrev pub old : Operands → Env → ℕ
 old o e = at e.variables (o .dest .0)
 
 abbrev pub gives : ℕ → Operands → Env → Rule
-gives v o e = leaves (put (o .dest .0) v e)
-
-abbrev pub low8 : ℕ → ℕ
-low8 n = n % 256
+gives v o e = leaves (put o.dest v e)
 
 -- ---- targets, in a list of n words
 
@@ -53,19 +51,19 @@ absolute bits n = wordOf (record { 0 = bits }) n
 
 -- the next opcode's index plus the signed offset
 abbrev pub relative : ℕ → Env → ℕ → Target
-relative offset e n = indexOf (pos (e .flow .counter) +ℤ signed32 offset) n
+relative offset e n = indexOf (pos (e .flow .counter .0) +ℤ signed32 offset) n
 
 abbrev pub missing : Target → Bool
-missing (At t) = false
+missing (At i) = false
 missing Refused = true
 
 abbrev pub reach : Target → Env → Env
-reach (At t) e = goto (t .0) e
+reach (At i) e = goto i e
 reach Refused e = e
 
--- whether condition k holds of the values last compared
+-- whether condition k is met by the values last compared
 abbrev pub taken : ℕ → Env → Bool
-taken k e = holds k (signed32 (e .flow .first)) (signed32 (e .flow .second))
+taken k e = met k (signed32 (e .flow .first)) (signed32 (e .flow .second))
 
 -- a jump not taken does not look at its target
 abbrev pub jumps : ℕ → Target → Env → Rule
@@ -96,49 +94,53 @@ window p q = record { x0 = p.x; y0 = p.y; x1 = q.x; y1 = q.y }
 abbrev pub dots : Dot → ℕ → Env → Rule
 dots p c e = refuse 25 (far p) (paints (dot p) c e)
 
--- a line from p to q, only of type 0; `out`: a coordinate or offset is outside
+-- only line type 0 is drawn
+abbrev pub otherType : ℕ → Bool
+otherType type = ltb 0 type
+
+-- a line from p to q; `out`: a coordinate or offset is outside
 abbrev pub draws : ℕ → Bool → Dot → Dot → Env → Rule
-draws type out p q e = refuse 24 (ltb 0 type) (refuse 25 out (paints (line (record { from = p; to = q })) (e .pen .colour) e))
+draws type out p q e = refuse 24 (otherType type) (refuse 25 out (paints (line (record { from = p; to = q })) (e .pen .colour) e))
 
 -- ---- each op, in a list of n words
-abbrev pub rule : Op → Operands → ℕ → Env → Rule
-rule Noop o n e = leaves e
-rule End o n e = leaves (turned Ended e)
-rule Load o n e = gives o.a o e
-rule Add o n e = gives (sum32 (old o e) o.a) o e
-rule And o n e = gives (bitAnd (old o e) o.a) o e
-rule Or o n e = gives (bitOr (old o e) o.a) o e
-rule Multiply o n e = gives (product32 (old o e) o.a) o e
-rule Divide o n e = refuse 26 (eqb o.a 0) (gives (quotient32 (old o e) o.a) o e)
-rule Remainder o n e = refuse 26 (eqb o.a 0) (gives (remainder32 (old o e) o.a) o e)
-rule Increment o n e = gives (sum32 (old o e) 1) o e
-rule Decrement o n e = gives (difference32 (old o e) 1) o e
-rule Compare o n e = leaves (compared (old o e) o.a e)
-rule Jump o n e = jumps o.a (absolute o.b n) e
-rule JumpBy o n e = jumps o.a (relative o.b e n) e
-rule Call o n e = calls (absolute o.a n) e
-rule CallBy o n e = calls (relative o.a e n) e
-rule Return o n e = refuse 29 (eqb (length (e .flow .stack)) 0) (leaves (goto (top e) (popped e)))
-rule ClipMode o n e = refuse 24 (ltb 2 o.a) (leaves (clipped o.a e))
-rule ClipWindow o n e =
+abbrev pub rule : Op.Op → Operands → ℕ → Env → Rule
+rule Op.Noop o n e = leaves e
+rule Op.End o n e = leaves (stated Ended e)
+rule Op.Load o n e = gives o.a o e
+rule Op.Add o n e = gives (sum32 (old o e) o.a) o e
+rule Op.And o n e = gives (bitAnd (old o e) o.a) o e
+rule Op.Or o n e = gives (bitOr (old o e) o.a) o e
+rule Op.Multiply o n e = gives (product32 (old o e) o.a) o e
+rule Op.Divide o n e = refuse 26 (eqb o.a 0) (gives (quotient32 (old o e) o.a) o e)
+rule Op.Remainder o n e = refuse 26 (eqb o.a 0) (gives (remainder32 (old o e) o.a) o e)
+rule Op.Increment o n e = gives (sum32 (old o e) 1) o e
+rule Op.Decrement o n e = gives (difference32 (old o e) 1) o e
+rule Op.Compare o n e = leaves (compared (old o e) o.a e)
+rule Op.Jump o n e = jumps o.a (absolute o.b n) e
+rule Op.JumpBy o n e = jumps o.a (relative o.b e n) e
+rule Op.Call o n e = calls (absolute o.a n) e
+rule Op.CallBy o n e = calls (relative o.a e n) e
+rule Op.Return o n e = refuse 29 (eqb (length (e .flow .stack)) 0) (leaves (goto (top e) (popped e)))
+rule Op.ClipMode o n e = refuse 24 (ltb 2 o.a) (leaves (clipped o.a e))
+rule Op.ClipWindow o n e =
     let p = point o.a o.b in
     let q = point o.c o.d in
     refuse 25 (far p || far q) (leaves (windowed (window p q) e))
-rule Colour o n e = leaves (coloured (low8 o.a) e)
-rule MoveTo o n e = let p = point o.a o.b in refuse 25 (far p) (leaves (moved p e))
-rule MoveBy o n e =
+rule Op.Colour o n e = leaves (coloured (low8 o.a) e)
+rule Op.MoveTo o n e = let p = point o.a o.b in refuse 25 (far p) (leaves (moved p e))
+rule Op.MoveBy o n e =
     let d = point o.a o.b in
     let p = shifted (e .pen .position) d in
     refuse 25 (far d || far p) (leaves (moved p e))
-rule Pixel o n e = dots (point o.a o.b) (e .pen .colour) e
-rule PixelColour o n e = dots (point o.a o.b) (low8 o.c) e
-rule Line o n e =
+rule Op.Pixel o n e = dots (point o.a o.b) (e .pen .colour) e
+rule Op.PixelColour o n e = dots (point o.a o.b) (low8 o.c) e
+rule Op.Line o n e =
     let p = point o.b o.c in
     let q = point o.d o.e in
     draws o.a (far p || far q) p q e
-rule LineTo o n e = let q = point o.b o.c in draws o.a (far q) (e .pen .position) q (moved q e)
-rule LineBy o n e =
+rule Op.LineTo o n e = let q = point o.b o.c in draws o.a (far q) (e .pen .position) q (moved q e)
+rule Op.LineBy o n e =
     let d = point o.b o.c in
     let q = shifted (e .pen .position) d in
     draws o.a (far d || far q) (e .pen .position) q (moved q e)
-rule Clear o n e = paints all (low8 o.a) e
+rule Op.Clear o n e = paints all (low8 o.a) e

@@ -1,9 +1,9 @@
 -- Document 01, 'Opcodes of the base': what stands behind an opcode word. Refusals 22 and 23 rest on `sizeOf` and `highest`.
 use Prim.Native.Nat.{ℕ, zero, suc, _+_, _-_, max}
 use mathlib.Core.List.{List, [], _∷_, _++_}
-use lib.ListN.{getD}
+use lib.ListN.{getD, replicate}
 use Rattle.numbers.specs.Number.{signed16, low32, longOf}
-use Rattle.rules.specs.Types.{Operands, Source, Bare, Var, VarVar, WordVar, LongVar, Word, Word2, Word3, Word4, Word5, Long, LongWord, WordLong, Word2Long, From1, From2, From3, From4, From5}
+use Rattle.rules.specs.Types.{Operands}
 
 -- one operand, as the paper writes it
 pub data Piece : Type 0 where
@@ -12,27 +12,13 @@ pub data Piece : Type 0 where
   from : ℕ → Piece  -- Vs, V or Vi: a word that names the first of so many variables
   dest : Piece  -- Vd, or the variable of INCV and DCRV
 
--- source stands left of destination; V forms take Vi, Vi+1 and so on
-abbrev pub pieces : Source → List Piece
-pieces Bare = []
-pieces Var = dest ∷ []
-pieces VarVar = from 1 ∷ dest ∷ []
-pieces WordVar = word ∷ dest ∷ []
-pieces LongVar = long ∷ dest ∷ []
-pieces Word = word ∷ []
-pieces Word2 = word ∷ word ∷ []
-pieces Word3 = word ∷ word ∷ word ∷ []
-pieces Word4 = word ∷ word ∷ word ∷ word ∷ []
-pieces Word5 = word ∷ word ∷ word ∷ word ∷ word ∷ []
-pieces Long = long ∷ []
-pieces LongWord = long ∷ word ∷ []
-pieces WordLong = word ∷ long ∷ []
-pieces Word2Long = word ∷ word ∷ long ∷ []
-pieces From1 = from 1 ∷ []
-pieces From2 = from 2 ∷ []
-pieces From3 = from 3 ∷ []
-pieces From4 = from 4 ∷ []
-pieces From5 = from 5 ∷ []
+-- where an opcode's operands come from: source stands left of destination; V forms take Vi, Vi+1 and so on
+abbrev pub Source : Type 0
+Source = List Piece
+
+-- n words
+abbrev pub plain : ℕ → Source
+plain n = replicate n word
 
 -- ---- how many words
 
@@ -42,13 +28,13 @@ width long = 2
 width (from n) = 1
 width dest = 1
 
-abbrev pub widths : List Piece → ℕ
+abbrev pub widths : Source → ℕ
 widths [] = 0
 widths (p ∷ ps) = width p + widths ps
 
 -- the words of an opcode, itself among them
 abbrev pub sizeOf : Source → ℕ
-sizeOf s = 1 + widths (pieces s)
+sizeOf s = 1 + widths s
 
 -- ---- which variables
 
@@ -64,7 +50,7 @@ last (from n) v = v + (n - 1)
 last dest v = v
 
 -- the highest variable that pieces name or imply, the first piece k words past the opcode at pc
-abbrev pub highest : List Piece → List ℕ → ℕ → ℕ → ℕ
+abbrev pub highest : Source → List ℕ → ℕ → ℕ → ℕ
 highest [] w pc k = 0
 highest (p ∷ ps) w pc k = max (last p (at w (pc + k))) (highest ps w pc (k + width p))
 
@@ -75,7 +61,7 @@ named long v other = other
 named (from n) v other = other
 named dest v other = v
 
-abbrev pub destination : List Piece → List ℕ → ℕ → ℕ → ℕ
+abbrev pub destination : Source → List ℕ → ℕ → ℕ → ℕ
 destination [] w pc k = 0
 destination (p ∷ ps) w pc k = named p (at w (pc + k)) (destination ps w pc (k + width p))
 
@@ -93,7 +79,7 @@ value long v h vs = longOf v h ∷ []
 value (from n) v h vs = following n v 0 vs
 value dest v h vs = []
 
-abbrev pub values : List Piece → List ℕ → ℕ → ℕ → List ℕ → List ℕ
+abbrev pub values : Source → List ℕ → ℕ → ℕ → List ℕ → List ℕ
 values [] w pc k vs = []
 values (p ∷ ps) w pc k vs = value p (at w (pc + k)) (at w (pc + (k + 1))) vs ++ values ps w pc (k + width p) vs
 
@@ -103,4 +89,4 @@ gathered v d = record { a = at v 0; b = at v 1; c = at v 2; d = at v 3; e = at v
 
 -- what an opcode at pc reads, of the list's words and the variables
 abbrev pub operands : Source → List ℕ → ℕ → List ℕ → Operands
-operands s w pc vs = gathered (values (pieces s) w pc 1 vs) (destination (pieces s) w pc 1)
+operands s w pc vs = gathered (values s w pc 1 vs) (destination s w pc 1)

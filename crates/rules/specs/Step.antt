@@ -5,10 +5,11 @@ use mathlib.Core.List.{List}
 use lib.ListN.{length}
 use lib.Dec.{ltb, leb}
 use Rattle.player.specs.Player.{Outcome, done, refused, Player, verdict}
-use Rattle.rules.specs.Types.{Form, Unknown, Known, Stopped}
+use Rattle.rules.specs.Types.{Stopped}
+use Rattle.rules.specs.Meaning.{Meaning, Unknown, Known, meaning}
 use Rattle.rules.specs.Table.{formOf}
-use Rattle.rules.specs.Operands.{at, pieces, sizeOf, highest, operands}
-use Rattle.rules.specs.Environment.{Env, goto, turned, frame}
+use Rattle.rules.specs.Operands.{at, sizeOf, highest, operands}
+use Rattle.rules.specs.Environment.{Env, onward, stated, frame}
 use Rattle.rules.specs.Opcodes.{Rule, leaves, rule}
 
 -- refused with a number where the test holds; else what comes after
@@ -16,23 +17,23 @@ abbrev pub check : ℕ → Bool → Outcome Env → Outcome Env
 check n true o = refused (verdict n)
 check n false o = o
 
-abbrev pub unknown : Form → Bool
+abbrev pub unknown : Meaning → Bool
 unknown Unknown = true
 unknown (Known op s) = false
 
 -- the list ends inside the opcode
-abbrev pub cut : Form → List ℕ → ℕ → Bool
+abbrev pub cut : Meaning → List ℕ → ℕ → Bool
 cut Unknown w pc = false
 cut (Known op s) w pc = ltb (length w) (pc + sizeOf s)
 
 -- a variable named or implied is above 63
-abbrev pub misnamed : Form → List ℕ → ℕ → Bool
+abbrev pub misnamed : Meaning → List ℕ → ℕ → Bool
 misnamed Unknown w pc = false
-misnamed (Known op s) w pc = ltb 63 (highest (pieces s) w pc 1)
+misnamed (Known op s) w pc = ltb 63 (highest s w pc 1)
 
-abbrev pub ruled : Form → List ℕ → Env → Rule
+abbrev pub ruled : Meaning → List ℕ → Env → Rule
 ruled Unknown w e = leaves e
-ruled (Known op s) w e = rule op (operands s w (e .flow .counter) e.variables) (length w) (goto (e .flow .counter + sizeOf s) e)
+ruled (Known op s) w e = rule op (operands s w (e .flow .counter .0) e.variables) (length w) (onward (sizeOf s) e)
 
 -- the end of the order: the lowest of 24 to 29 that a rule breaks, or what it says; what is painted goes by the environment before the opcode
 unfoldable pub carried : Rule → Env → Outcome Env
@@ -46,21 +47,21 @@ carried r e =
     (done r.env (record { frame = frame e; shape = r.shape; colour = r.colour })))))))
 
 -- 20 to 29, lowest first
-abbrev pub judged : Form → Rule → List ℕ → Env → Outcome Env
-judged f r w e =
-    check 20 (leb (length w) (e .flow .counter))
-    (check 21 (unknown f)
-    (check 22 (cut f w (e .flow .counter))
-    (check 23 (misnamed f w (e .flow .counter))
+abbrev pub judged : Meaning → Rule → List ℕ → Env → Outcome Env
+judged m r w e =
+    check 20 (leb (length w) (e .flow .counter .0))
+    (check 21 (unknown m)
+    (check 22 (cut m w (e .flow .counter .0))
+    (check 23 (misnamed m w (e .flow .counter .0))
     (carried r e))))
 
-abbrev pub stepAt : Form → List ℕ → Env → Outcome Env
-stepAt f w e = judged f (ruled f w e) w e
+abbrev pub stepAt : Meaning → List ℕ → Env → Outcome Env
+stepAt m w e = judged m (ruled m w e) w e
 
 -- the opcode at the counter
 unfoldable pub step : List ℕ → Env → Outcome Env
-step w e = stepAt (formOf (at w (e .flow .counter))) w e
+step w e = stepAt (meaning (formOf (at w (e .flow .counter .0)))) w e
 
 -- a refused opcode leaves all but the state as it was
 abbrev pub afgis : List ℕ → Player Env
-afgis w = record { state = λ e. e.state; stop = λ v e. turned (Stopped v) e; step = step w }
+afgis w = record { state = λ e. e.state; stop = λ v e. stated (Stopped v) e; step = step w }

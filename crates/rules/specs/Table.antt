@@ -1,67 +1,71 @@
--- Document 01, 'Opcodes of the base': every opcode's number, what it does and where its operands come from, in order of number.
--- The numbers are 01's, RTRN's is that of 004's alphabetical list; the comments are the paper's names with their operands.
+-- Document 01, 'Opcodes of the base': every opcode's number, in order. The numbers are 01's, RTRN's is that of 004's alphabetical list.
 use Prim.Native.Nat.{ℕ}
 use mathlib.Core.Bool.{cond}
 use mathlib.Core.List.{List, [], _∷_}
 use lib.Dec.{eqb}
-use Rattle.rules.specs.Types.{Op, Noop, End, Load, Add, And, Or, Multiply, Divide, Remainder, Increment, Decrement, Compare, Jump, JumpBy, Call, CallBy, Return, ClipMode, ClipWindow, Colour, MoveTo, MoveBy, Pixel, PixelColour, Line, LineTo, LineBy, Clear, Source, Bare, Var, VarVar, WordVar, LongVar, Word, Word2, Word3, Word4, Word5, Long, LongWord, WordLong, Word2Long, From1, From2, From3, From4, From5, Form, Unknown, Known}
+use Rattle.rules.specs.declared.opcode.FlowForm.the-variants as Flows
+use Rattle.rules.specs.declared.opcode.ValueForm.the-variants as Values
+use Rattle.rules.specs.declared.opcode.PenForm.the-variants as Pens
+use Rattle.rules.specs.declared.opcode.PaintForm.the-variants as Paints
+use Rattle.rules.specs.declared.opcode.Form.the-variants.{Unknown, Flow, Value, Pen, Paint}
+use Rattle.rules.specs.Types.{Form}
 
 pub record Row : Type 0 where
   pub number : ℕ
   pub form : Form
 
-abbrev pub row : ℕ → Op → Source → Row
-row n op s = record { number = n; form = Known op s }
+abbrev pub row : ℕ → Form → Row
+row n f = record { number = n; form = f }
 
 abbrev pub table : List Row
 table =
-    row 0x0000 Noop Bare ∷  -- NOOP
-    row 0x0001 End Bare ∷  -- EODL
-    row 0x0002 Add LongVar ∷  -- ADIV long Vd
-    row 0x0003 Add VarVar ∷  -- ADVV Vs Vd
-    row 0x0006 And LongVar ∷  -- ANDIV long Vd
-    row 0x0007 And VarVar ∷  -- ANDVV Vs Vd
-    row 0x000E Call Long ∷  -- CAL long
-    row 0x000F Call From1 ∷  -- CALV V
-    row 0x0016 ClipMode Word ∷  -- CLIPMODE mode
-    row 0x0017 ClipMode From1 ∷  -- CLIPMODEV V
-    row 0x0018 ClipWindow Word4 ∷  -- CLIPWIN x0 y0 x1 y1
-    row 0x0019 ClipWindow From4 ∷  -- CLIPWINV Vi
-    row 0x001F Colour Long ∷  -- COLORF long
-    row 0x0020 Colour From1 ∷  -- COLORFV V
-    row 0x0033 Compare LongVar ∷  -- CPIV long Vd
-    row 0x0034 Compare VarVar ∷  -- CPVV Vs Vd
-    row 0x0042 Decrement Var ∷  -- DCRV V
-    row 0x0045 Divide VarVar ∷  -- DIVV Vs Vd
-    row 0x005D Increment Var ∷  -- INCV V
-    row 0x0065 Load WordVar ∷  -- LDIV word Vd
-    row 0x0066 Load LongVar ∷  -- LDIVL long Vd
-    row 0x0071 Load VarVar ∷  -- LDVV Vs Vd
-    row 0x0074 Line Word5 ∷  -- LINE type x0 y0 x1 y1
-    row 0x0075 Line From5 ∷  -- LINEV Vi
-    row 0x007C LineTo Word3 ∷  -- LINETO type x y
-    row 0x007D LineTo From3 ∷  -- LINETOV Vi
-    row 0x007E LineBy Word3 ∷  -- LINETOR type dx dy
-    row 0x007F LineBy From3 ∷  -- LINETORV Vi
-    row 0x0080 Multiply VarVar ∷  -- MLTV Vs Vd
-    row 0x0081 Remainder VarVar ∷  -- MODV Vs Vd
-    row 0x0082 MoveTo Word2 ∷  -- MOVETO x y
-    row 0x0083 MoveTo From2 ∷  -- MOVETOV Vi
-    row 0x0084 MoveBy Word2 ∷  -- MOVETOR dx dy
-    row 0x0085 MoveBy From2 ∷  -- MOVETORV Vi
-    row 0x0090 Or LongVar ∷  -- ORIV long Vd
-    row 0x0091 Or VarVar ∷  -- ORVV Vs Vd
-    row 0x009E Pixel Word2 ∷  -- PIXEL x y
-    row 0x009F Pixel From2 ∷  -- PIXELV Vi
-    row 0x00B9 Return Bare ∷  -- RTRN
-    row 0x010A Jump WordLong ∷  -- JUMPA condition long
-    row 0x010C JumpBy Word2 ∷  -- JUMPR condition word
-    row 0x010E CallBy Word ∷  -- CALR word
-    row 0x010F CallBy From1 ∷  -- CALRV V
-    row 0x0150 PixelColour Word2Long ∷  -- PIXELC x y long
-    row 0x0151 PixelColour From3 ∷  -- PIXELCV Vi
-    row 0x0188 Clear LongWord ∷  -- CLRWIN long word
-    row 0x0189 Clear From2 ∷  -- CLRWINV Vi
+    row 0x0000 (Flow Flows.Noop) ∷
+    row 0x0001 (Flow Flows.Eodl) ∷
+    row 0x0002 (Value Values.Adiv) ∷
+    row 0x0003 (Value Values.Advv) ∷
+    row 0x0006 (Value Values.Andiv) ∷
+    row 0x0007 (Value Values.Andvv) ∷
+    row 0x000E (Flow Flows.Cal) ∷
+    row 0x000F (Flow Flows.Calv) ∷
+    row 0x0016 (Pen Pens.Clipmode) ∷
+    row 0x0017 (Pen Pens.Clipmodev) ∷
+    row 0x0018 (Pen Pens.Clipwin) ∷
+    row 0x0019 (Pen Pens.Clipwinv) ∷
+    row 0x001F (Pen Pens.Colorf) ∷
+    row 0x0020 (Pen Pens.Colorfv) ∷
+    row 0x0033 (Value Values.Cpiv) ∷
+    row 0x0034 (Value Values.Cpvv) ∷
+    row 0x0042 (Value Values.Dcrv) ∷
+    row 0x0045 (Value Values.Divv) ∷
+    row 0x005D (Value Values.Incv) ∷
+    row 0x0065 (Value Values.Ldiv) ∷
+    row 0x0066 (Value Values.Ldivl) ∷
+    row 0x0071 (Value Values.Ldvv) ∷
+    row 0x0074 (Paint Paints.Line) ∷
+    row 0x0075 (Paint Paints.Linev) ∷
+    row 0x007C (Paint Paints.Lineto) ∷
+    row 0x007D (Paint Paints.Linetov) ∷
+    row 0x007E (Paint Paints.Linetor) ∷
+    row 0x007F (Paint Paints.Linetorv) ∷
+    row 0x0080 (Value Values.Mltv) ∷
+    row 0x0081 (Value Values.Modv) ∷
+    row 0x0082 (Pen Pens.Moveto) ∷
+    row 0x0083 (Pen Pens.Movetov) ∷
+    row 0x0084 (Pen Pens.Movetor) ∷
+    row 0x0085 (Pen Pens.Movetorv) ∷
+    row 0x0090 (Value Values.Oriv) ∷
+    row 0x0091 (Value Values.Orvv) ∷
+    row 0x009E (Paint Paints.Pixel) ∷
+    row 0x009F (Paint Paints.Pixelv) ∷
+    row 0x00B9 (Flow Flows.Rtrn) ∷
+    row 0x010A (Flow Flows.Jumpa) ∷
+    row 0x010C (Flow Flows.Jumpr) ∷
+    row 0x010E (Flow Flows.Calr) ∷
+    row 0x010F (Flow Flows.Calrv) ∷
+    row 0x0150 (Paint Paints.Pixelc) ∷
+    row 0x0151 (Paint Paints.Pixelcv) ∷
+    row 0x0188 (Paint Paints.Clrwin) ∷
+    row 0x0189 (Paint Paints.Clrwinv) ∷
     []
 
 -- the form of the row with that number; everything else is unknown

@@ -23,13 +23,13 @@ pub struct Registers {
     pub state: u8,
 }
 
-// Variables are 32 bits each; the stack holds word indices, the first return stacked at its start.
+// Variables are 32 bits each; the first return stacked is at the start of the stack.
 #[repr(C)]
 pub struct Env {
     pub bounds: Bounds,
     pub registers: Registers,
     pub variables: [u32; 64],
-    pub stack: [u32; 16],
+    pub stack: [WordIndex; 16],
 }
 
 // The state that the environment's byte stands for.

@@ -1,63 +1,75 @@
-// Document 01, 'Opcodes of the base': an opcode is what it does, an Op, at where its operands come from, a Source.
+// Document 01, 'Opcodes of the base': the opcodes by their names on the paper, and what was read behind one.
 use numbers::place::VarNo;
 
-pub enum Op {
+// Those that go elsewhere, end or do nothing,
+pub enum FlowForm {
     Noop,
-    End,
-    Load,
-    Add,
-    And,
-    Or,
-    Multiply,
-    Divide,
-    Remainder,
-    Increment,
-    Decrement,
-    Compare,
-    Jump,
-    JumpBy,
-    Call,
-    CallBy,
-    Return,
-    ClipMode,
-    ClipWindow,
-    Colour,
-    MoveTo,
-    MoveBy,
-    Pixel,
-    PixelColour,
-    Line,
-    LineTo,
-    LineBy,
-    Clear,
+    Eodl,
+    Cal,
+    Calv,
+    Rtrn,
+    Jumpa,
+    Jumpr,
+    Calr,
+    Calrv,
 }
 
-// Words and longs of the list, single variables, or From a variable and its followers.
-pub enum Source {
-    Bare,
-    Var,
-    VarVar,
-    WordVar,
-    LongVar,
-    Word,
-    Word2,
-    Word3,
-    Word4,
-    Word5,
-    Long,
-    LongWord,
-    WordLong,
-    Word2Long,
-    From1,
-    From2,
-    From3,
-    From4,
-    From5,
+// those of the variables and the values compared,
+pub enum ValueForm {
+    Adiv,
+    Advv,
+    Andiv,
+    Andvv,
+    Cpiv,
+    Cpvv,
+    Dcrv,
+    Divv,
+    Incv,
+    Ldiv,
+    Ldivl,
+    Ldvv,
+    Mltv,
+    Modv,
+    Oriv,
+    Orvv,
+}
+
+// those that set what is drawn with,
+pub enum PenForm {
+    Clipmode,
+    Clipmodev,
+    Clipwin,
+    Clipwinv,
+    Colorf,
+    Colorfv,
+    Moveto,
+    Movetov,
+    Movetor,
+    Movetorv,
+}
+
+// and those that paint.
+pub enum PaintForm {
+    Line,
+    Linev,
+    Lineto,
+    Linetov,
+    Linetor,
+    Linetorv,
+    Pixel,
+    Pixelv,
+    Pixelc,
+    Pixelcv,
+    Clrwin,
+    Clrwinv,
 }
 
 pub enum Form {
     Unknown,
-    Known(Op, Source),
+    Flow(FlowForm),
+    Value(ValueForm),
+    Pen(PenForm),
+    Paint(PaintForm),
 }
 
 // What was read: at most five values of 32 bits, and the variable named as destination.
