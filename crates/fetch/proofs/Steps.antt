@@ -7,12 +7,12 @@ use borrow.Author.Tests.{le-leb, lt-leb}
 use lib.ListN.{length}
 use lib.Dec.{ltb}
 use Rattle.player.specs.Player.{verdict, Outcome, refused}
-use Rattle.rules.specs.declared.opcode.Op.{Op}
-use Rattle.rules.specs.declared.opcode.Source.{Source}
-use Rattle.rules.specs.declared.opcode.Form.the-variants.{Unknown, Known}
+use Rattle.numbers.specs.declared.place.WordIndex.{WordIndex}
 use Rattle.rules.specs.declared.opcode.Operands.{Operands}
+use Rattle.rules.specs.Op.{Op}
 use Rattle.rules.specs.Table.{formOf}
-use Rattle.rules.specs.Operands.{at, pieces, sizeOf, highest, operands}
+use Rattle.rules.specs.Meaning.{Unknown, Known, meaning}
+use Rattle.rules.specs.Operands.{Source, at, sizeOf, highest, operands}
 use Rattle.rules.specs.Environment.{Env, goto}
 use Rattle.rules.specs.Opcodes.{rule}
 use Rattle.rules.specs.Step.{check, carried, step}
@@ -21,30 +21,30 @@ use Rattle.fetch.specs.declared.source.Taken.the-variants.{Refused, Got}
 use Rattle.fetch.specs.Stages.{takenOf}
 
 module _ (w : List ℕ) (e : Env) where
-  pub step-20 : length w ≤ e .flow .counter → step w e ≡ refused (verdict 20)
+  pub step-20 : length w ≤ e .flow .counter .0 → step w e ≡ refused (verdict 20)
   unfolding step
   step-20 h = rw (le-leb _ _ h)
 
-  module _ (h : e .flow .counter < length w) where
-    pub step-21 : formOf (at w (e .flow .counter)) ≡ Unknown → step w e ≡ refused (verdict 21)
+  module _ (h : e .flow .counter .0 < length w) where
+    pub step-21 : meaning (formOf (at w (e .flow .counter .0))) ≡ Unknown → step w e ≡ refused (verdict 21)
     unfolding step
     step-21 k = rw (lt-leb _ _ h, k)
 
     -- what an op makes of what was taken
     abbrev pub resolved : Op → Taken → Outcome Env
     resolved op (Refused n) = refused (verdict n)
-    resolved op (Got o next) = carried (rule op o (length w) (goto (next .0) e)) e
+    resolved op (Got o next) = carried (rule op o (length w) (goto next e)) e
 
-    pub step-taken : {op : Op} {s : Source} → formOf (at w (e .flow .counter)) ≡ Known op s
-        → step w e ≡ resolved op (takenOf (pieces s) w (e .flow .counter) (e .variables))
+    pub step-taken : {op : Op} {s : Source} → meaning (formOf (at w (e .flow .counter .0))) ≡ Known op s
+        → step w e ≡ resolved op (takenOf s w (e .flow .counter .0) (e .variables))
     unfolding step takenOf
     step-taken {op} {s} k =
-        let next = e .flow .counter + sizeOf s in
-        rw (lt-leb _ _ h, k) (go (operands s w (e .flow .counter) (e .variables)) next (ltb (length w) next) (ltb 63 (highest (pieces s) w (e .flow .counter) 1)))
+        let next = e .flow .counter .0 + sizeOf s in
+        rw (lt-leb _ _ h, k) (go (operands s w (e .flow .counter .0) (e .variables)) (record { 0 = next }) (ltb (length w) next) (ltb 63 (highest s w (e .flow .counter .0) 1)))
       where
-        go : (o : Operands) (next : ℕ) (b d : Bool)
+        go : (o : Operands) (next : WordIndex) (b d : Bool)
             → check 22 b (check 23 d (carried (rule op o (length w) (goto next e)) e))
-            ≡ resolved op (cond b (Refused 22) (cond d (Refused 23) (Got o (record { 0 = next }))))
+            ≡ resolved op (cond b (Refused 22) (cond d (Refused 23) (Got o next)))
         go o next true d = refl
         go o next false true = refl
         go o next false false = refl

@@ -4,13 +4,15 @@ use mathlib.Core.Path.{_≡_, refl, ap, _∙_}
 use mathlib.Core.Bool.{Bool, true, false, cond}
 use mathlib.Core.List.{List, [], _∷_, append-nil}
 use native.Mathlib.Omega.{arith}
-use lib.ListN.{length, replicate}
+use lib.ListN.{length}
 use lib.Dec.{ltb}
 use borrow.Author.Tests.{lt-ltb, le-ltb, ltb-true, ltb-false}
 use Rattle.numbers.specs.declared.place.VarNo.{VarNo}
+use Rattle.numbers.specs.declared.place.WordIndex.{WordIndex}
+use Rattle.numbers.specs.Place as Place
 use Rattle.numbers.specs.Number.{signed16, low32}
 use Rattle.rules.specs.declared.opcode.Operands.{Operands}
-use Rattle.rules.specs.Operands.{Piece, word, from, at, widths, highest, following, values, destination, gathered}
+use Rattle.rules.specs.Operands.{Source, from, plain, at, sizeOf, highest, following, values, destination, gathered}
 use Rattle.fetch.specs.declared.source.Taken.the-variants.{Refused, Got}
 use Rattle.fetch.specs.Stages.{ontoOf, takenOf}
 
@@ -29,69 +31,70 @@ past-variables (suc n) v j vs (suc k) h = past-variables n v (j + 1) vs k (omega
 -- ---- n words and no variable, where the first is j past the opcode
 module _ (w : List ℕ) (pc : ℕ) where
   pub nth-word : (n j : ℕ) (vs : List ℕ) (k i : ℕ) → i ≡ j + k → k < n
-      → at (values (replicate n word) w pc j vs) k ≡ low32 (signed16 (at w (pc + i)))
+      → at (values (plain n) w pc j vs) k ≡ low32 (signed16 (at w (pc + i)))
   nth-word zero j vs k i e h = absurd (omega arith)
   nth-word (suc n) j vs zero i e h = ap (λ (i : ℕ). low32 (signed16 (at w (pc + i)))) (omega arith)
   nth-word (suc n) j vs (suc k) i e h = nth-word n (j + 1) vs k i (omega arith) (omega arith)
 
-  pub past-words : (n j : ℕ) (vs : List ℕ) (k : ℕ) → n ≤ k → at (values (replicate n word) w pc j vs) k ≡ 0
+  pub past-words : (n j : ℕ) (vs : List ℕ) (k : ℕ) → n ≤ k → at (values (plain n) w pc j vs) k ≡ 0
   past-words zero j vs k h = refl
   past-words (suc n) j vs zero h = absurd (omega arith)
   past-words (suc n) j vs (suc k) h = past-words n (j + 1) vs k (omega arith)
 
-  pub no-variable : (n j : ℕ) → highest (replicate n word) w pc j ≡ 0
+  pub no-variable : (n j : ℕ) → highest (plain n) w pc j ≡ 0
   no-variable zero j = refl
   no-variable (suc n) j = rw (no-variable n (j + 1))
 
-  pub no-destination : (n j : ℕ) → destination (replicate n word) w pc j ≡ 0
+  pub no-destination : (n j : ℕ) → destination (plain n) w pc j ≡ 0
   no-destination zero j = refl
   no-destination (suc n) j = no-destination n (j + 1)
 
-pub all-words : (n : ℕ) → widths (replicate n word) ≡ n
+pub all-words : (n : ℕ) → sizeOf (plain n) ≡ 1 + n
 all-words zero = refl
 all-words (suc n) = omega (arith, all-words n)
 
--- ---- a destination d, above 63 or not
-module _ (a d next : ℕ) where
-  pub above : 63 < d → Refused 23 ≡ ontoOf a d next
+-- ---- a destination d, above 63 or not, and v the variable that it names
+module _ (a d : ℕ) (v : VarNo) (is : v .0 ≡ d) (next : WordIndex) where
+  pub above : Place.above v 1 ≡ true → Refused 23 ≡ ontoOf a (record { 0 = d }) next
   unfolding ontoOf
-  above h = rw (lt-ltb _ _ h)
+  above h = rw (← is, h)
 
-  pub below : (v : VarNo) {n : ℕ} → v .0 ≡ d → n ≡ next → d ≤ 63 → Got (record { a = a; b = 0; c = 0; d = 0; e = 0; dest = v }) (record { 0 = n }) ≡ ontoOf a d next
+  pub below : {n : WordIndex} → n .0 ≡ next .0 → Place.above v 1 ≡ false
+      → Got (record { a = a; b = 0; c = 0; d = 0; e = 0; dest = v }) n ≡ ontoOf a (record { 0 = d }) next
   unfolding ontoOf
-  below v e n h = rw (le-ltb _ _ h, ← e, n)
+  below e h = rw (← is, h) (λ i. Got (record { a = a; b = 0; c = 0; d = 0; e = 0; dest = v }) (record { 0 = e i }))
 
--- ---- pieces
-module _ (ps : List Piece) (w : List ℕ) (pc : ℕ) (vs : List ℕ) where
-  pub short : length w < pc + (1 + widths ps) → Refused 22 ≡ takenOf ps w pc vs
+-- ---- a source
+module _ (ps : Source) (w : List ℕ) (pc : ℕ) (vs : List ℕ) where
+  pub short : length w < pc + sizeOf ps → Refused 22 ≡ takenOf ps w pc vs
   unfolding takenOf
   short l = rw (lt-ltb _ _ l)
 
-  module _ (l : pc + (1 + widths ps) ≤ length w) where
+  module _ (l : pc + sizeOf ps ≤ length w) where
     pub over : 63 < highest ps w pc 1 → Refused 23 ≡ takenOf ps w pc vs
     unfolding takenOf
     over h = rw (le-ltb _ _ l, lt-ltb _ _ h)
 
-    pub fine : {o : Operands} {next : ℕ} → highest ps w pc 1 ≤ 63 → o ≡ gathered (values ps w pc 1 vs) (destination ps w pc 1) → next ≡ pc + (1 + widths ps)
+    pub fine : {o : Operands} {next : ℕ} → highest ps w pc 1 ≤ 63 → o ≡ gathered (values ps w pc 1 vs) (destination ps w pc 1) → next ≡ pc + sizeOf ps
         → Got o (record { 0 = next }) ≡ takenOf ps w pc vs
     unfolding takenOf
     fine h e n = rw (le-ltb _ _ l, le-ltb _ _ h, e, n)
 
     -- at most three values
     pub three : {a b c next : ℕ} → highest ps w pc 1 ≤ 63 → let v = values ps w pc 1 vs in (a ≡ at v 0) × (b ≡ at v 1) × (c ≡ at v 2)
-        → gathered (at v 0 ∷ at v 1 ∷ at v 2 ∷ []) 0 ≡ gathered v (destination ps w pc 1) → next ≡ pc + (1 + widths ps)
+        → gathered (at v 0 ∷ at v 1 ∷ at v 2 ∷ []) 0 ≡ gathered v (destination ps w pc 1) → next ≡ pc + sizeOf ps
         → Got (record { a = a; b = b; c = c; d = 0; e = 0; dest = record { 0 = 0 } }) (record { 0 = next }) ≡ takenOf ps w pc vs
     three h q r n = fine h ((λ i. record { a = q .0 i; b = q .1 i; c = q .2 i; d = 0; e = 0; dest = record { 0 = 0 } }) ∙ r) n
 
     -- at most one value and a destination v, while no other variable is above 63
     pub onto : {a : ℕ} (v : ℕ) → v ≤ highest ps w pc 1 → highest ps w pc 1 ≤ max v 63 → let x = at (values ps w pc 1 vs) 0 in a ≡ x
-        → gathered (x ∷ []) v ≡ gathered (values ps w pc 1 vs) (destination ps w pc 1) → ontoOf a v (pc + (1 + widths ps)) ≡ takenOf ps w pc vs
-    unfolding ontoOf
-    onto {a} v low high q r = go (ltb 63 v) refl
+        → gathered (x ∷ []) v ≡ gathered (values ps w pc 1 vs) (destination ps w pc 1) → ontoOf a (record { 0 = v }) (record { 0 = pc + sizeOf ps }) ≡ takenOf ps w pc vs
+    unfolding ontoOf Place.above
+    onto {a} v low high q r = go (ltb 63 (v + 0)) refl
       where
-        go : (b : Bool) → ltb 63 v ≡ b → cond b (Refused 23) (Got (gathered (a ∷ []) v) (record { 0 = pc + (1 + widths ps) })) ≡ takenOf ps w pc vs
-        go true p = over (omega (arith, ltb-true 63 v p))
-        go false p = fine (omega (arith, ltb-false 63 v p)) (ap (λ (a : ℕ). gathered (a ∷ []) v) q ∙ r) refl
+        go : (b : Bool) → ltb 63 (v + 0) ≡ b → cond b (Refused 23) (Got (gathered (a ∷ []) v) (record { 0 = pc + sizeOf ps })) ≡ takenOf ps w pc vs
+        go true p = over (omega (arith, ltb-true 63 (v + 0) p))
+        go false p = fine (omega (arith, ltb-false 63 (v + 0) p)) (ap (λ (a : ℕ). gathered (a ∷ []) v) q ∙ r) refl
 
 pub from-variable : (n : ℕ) (w : List ℕ) (pc : ℕ) (vs : List ℕ) (v : ℕ) {o : Operands} {next : ℕ} → v ≡ at w (pc + 1) → pc + 2 ≤ length w → v ≤ 63 → v + n ≤ 64
     → o ≡ gathered (following n v 0 vs) 0 → next ≡ pc + 2 → Got o (record { 0 = next }) ≡ takenOf (from n ∷ []) w pc vs

@@ -1,6 +1,8 @@
 -- `onto`: the arms are those of `ontoOf`.
+use mathlib.Core.Path.{sym, _∙_}
 use native.Mathlib.Omega.{arith}
 use borrow.Author.Needs.{needs}
+use Rattle.numbers.proofs.Places.{not-above}
 use Rattle.fetch.proofs.Taking.{above, below}
 use Rattle.fetch.proofs.source.onto.Statement.{statement}
 use Rattle.fetch.proofs.source.onto.Tie as tie
@@ -10,8 +12,11 @@ onto-spec =
     tie.close
     (tie.spec
     (λ c κs. search needs)
-    (λ c. (above _ _ _ (omega arith), tt))
     (λ c κs. search needs)
+    (λ c. (above _ _ _ (c .before .before .named .ensures) _ (sym (c .before .above .ensures) ∙ c .if1 .taken), tt))
     (λ c. search needs)
-    (λ c. search needs)
-    (λ c. (below _ _ _ _ (omega arith) (omega arith) (omega arith), omega arith)))
+    (λ c κs. search needs)
+    (λ c.
+    let i = c .before in
+    let low = sym (i .before .above .ensures) ∙ i .if1 .left in
+    (below _ _ _ (i .before .before .named .ensures) _ (c .past .ensures) low, omega (arith, not-above _ 1 low))))
