@@ -28,22 +28,22 @@ lowest r =
     (cond (r .breaks 29) (some 29) none)))))
 
 -- refused with a number, where there is one
-abbrev unless : Option ℕ → Outcome Env → Outcome Env
-unless (some n) o = refused (verdict n)
-unless none o = o
+abbrev refusedBy : Option ℕ → Outcome Env → Outcome Env
+refusedBy (some n) o = refused (verdict n)
+refusedBy none o = o
 
-abbrev pub painting : Rule → Env → Painting
+abbrev painting : Rule → Env → Painting
 painting r e = record { frame = frame e; shape = r .shape; colour = r .colour }
 
 abbrev said : Rule → Env → Outcome Env
 said r e = done (r .env) (painting r e)
 
-carried-is : (r : Rule) (e : Env) → carried r e ≡ unless (lowest r) (said r e)
+carried-is : (r : Rule) (e : Env) → carried r e ≡ refusedBy (lowest r) (said r e)
 unfolding carried
 carried-is r e =
     go 24 (r .breaks 24) _ (go 25 (r .breaks 25) _ (go 26 (r .breaks 26) _ (go 27 (r .breaks 27) _ (go 28 (r .breaks 28) _ (go 29 (r .breaks 29) none refl)))))
   where
-    go : (n : ℕ) (b : Bool) {o : Outcome Env} (m : Option ℕ) → o ≡ unless m (said r e) → check n b o ≡ unless (cond b (some n) m) (said r e)
+    go : (n : ℕ) (b : Bool) {o : Outcome Env} (m : Option ℕ) → o ≡ refusedBy m (said r e) → check n b o ≡ refusedBy (cond b (some n) m) (said r e)
     go n true m p = refl
     go n false m p = p
 
@@ -58,7 +58,7 @@ no-dots f = λ i x y. go (drawable f x y) i
 -- ---- a rule, the next opcode at an index, from the environment e; p is the brush that is left
 module _ (rule : Env → Rule) (next : WordIndex) (e : Env) (p : List ℕ) where
   abbrev r : Rule
-  r = rule (goto (next .0) e)
+  r = rule (goto next e)
 
   -- a rule that breaks n, and none below it, is refused with n, and all stays
   pub stays : {n : ℕ} {X : Shown} → lowest r ≡ some n → X ≡ stayed (verdict n) e → X ≡ does rule next e p
@@ -71,7 +71,7 @@ module _ (rule : Env → Rule) (next : WordIndex) (e : Env) (p : List ℕ) where
   goes k x = rw (carried-is r e, k) x
 
   -- and does what another rule does that says the same and checks nothing
-  pub past : (f : Env → Rule) {X : Shown} → lowest r ≡ none → f (goto (next .0) e) ≡ paints (r .shape) (r .colour) (r .env) → X ≡ does f next e p
+  pub past : (f : Env → Rule) {X : Shown} → lowest r ≡ none → f (goto next e) ≡ paints (r .shape) (r .colour) (r .env) → X ≡ does f next e p
       → X ≡ does rule next e p
   unfolding does carried
   past f k same x = goes k (rw same at x)
@@ -82,8 +82,8 @@ module _ (rule : Env → Rule) (next : WordIndex) (e : Env) (p : List ℕ) where
   drawn k z env framed h = goes k (rw (z, env, framed, h .shape, h .colour))
 
   -- where the shape is empty, no dot is painted
-  pub turns : {X : Shown} → lowest r ≡ none → painting r e ≡ nothing (frame e) → X ≡ went (r .env) (unmarked (e .bounds)) → X ≡ does rule next e p
-  turns k empty x =
+  pub paints-nothing : {X : Shown} → lowest r ≡ none → painting r e ≡ nothing (frame e) → X ≡ went (r .env) (unmarked (e .bounds)) → X ≡ does rule next e p
+  paints-nothing k empty x =
       goes k
       (x
       ∙ ap (λ (d : Shape). went (r .env) (record { bounds = e .bounds; dots = d; colour = 0 })) (sym (no-dots (frame e)))

@@ -11,20 +11,21 @@ use Rattle.numbers.specs.declared.place.WordIndex.{WordIndex}
 use Rattle.numbers.specs.declared.place.Target.{Target}
 use Rattle.numbers.specs.declared.place.Target.the-variants.{At, Refused}
 use Rattle.raster.specs.declared.frame.Bounds.{Bounds}
-use Rattle.rules.specs.declared.opcode.Op.the-variants.{Return}
 use Rattle.rules.specs.declared.opcode.Operands.{Operands}
+use Rattle.rules.specs.Op as Op
 use Rattle.rules.specs.Environment.{Env, firsts, goto, stacked}
 use Rattle.rules.specs.Opcodes.{calls, rule}
 use Rattle.rules.proofs.StackLaws.{length-firsts, push, pop, each}
-use Rattle.act.specs.Held.{celled, look, Recelled, Deepened}
+use Rattle.act.specs.Lent.{celled, indexed, look, Recelled, Deepened}
 use Rattle.act.specs.Shown.{does}
 use Rattle.act.specs.Contracts.{Stacks, Stacked}
-use Rattle.act.proofs.Acting.{stays, turns}
+use Rattle.act.proofs.Acting.{stays, paints-nothing}
 use Rattle.act.proofs.Handing.{settled}
+use Rattle.act.proofs.LentLaws.{indexed-set, indexed-at, indexed-length}
 
 -- the depth was set to n, and then the counter to i
-then-to : (n : ℕ) {i : ℕ} (cs : List ℕ) {cs' cs'' : List ℕ} → Deepened n cs cs' → Recelled (goto i) cs' cs'' → (b : Bounds) (ps : List ℤ) (vs st : List ℕ)
-    → look b cs'' ps vs st ≡ goto i (stacked (firsts n st) (look b cs ps vs st))
+then-to : (n : ℕ) {i : WordIndex} (cs : List ℕ) {cs' cs'' : List ℕ} → Deepened n cs cs' → Recelled (goto i) cs' cs'' → (b : Bounds) (ps : List ℤ) (vs st : List ℕ)
+    → look b cs'' ps vs st ≡ goto i (stacked (firsts n (indexed st)) (look b cs ps vs st))
 then-to n {i} cs p g b ps vs st = g .shows b ps vs st ∙ ap (goto i) (p .1 b ps vs st)
 
 -- ---- a call, and a return; d is the depth
@@ -35,41 +36,44 @@ module _ (t : Target) (next : WordIndex) {cs st : List ℕ} (pre : Stacked cs st
   module _ {i : WordIndex} (m : t ≡ At i) {d : ℕ} (is : d ≡ celled cs .depth) where
     pub call-28 : 16 ≤ d → Stacks 28 (does (calls t) next) cs cs st st
     call-28 h =
-        record { cells = pre .cells; deep = pre .full; tells = λ b ps vs s. stays _ _ _ s (rw (m, ← is, length-firsts d st, le-leb 16 d h)) refl }
+        record { cells = pre .cells; deep = pre .full; tells = λ b ps vs s. stays _ _ _ s (rw (m, ← is, length-firsts d (indexed st), le-leb 16 d h)) refl }
 
     -- the next opcode's index is stored at the depth
-    pub call-at : d < 16 → {q : ℕ} {cs' cs'' : List ℕ} → Deepened (d + 1) cs cs' → (q ≡ 0) × Recelled (goto (i .0)) cs' cs''
-        → Stacks q (does (calls t) next) cs cs'' st (set st d (next .0))
-    call-at h p g = record {
+    pub call-at : d < 16 → {q : ℕ} {cs' cs'' st' : List ℕ} → st' ≡ set st d (next .0) → Deepened (d + 1) cs cs' → (q ≡ 0) × Recelled (goto i) cs' cs''
+        → Stacks q (does (calls t) next) cs cs'' st st'
+    call-at h e p g = rw e (record {
       cells = g .1 .full;
       deep = simp length-set (pre .full);
       tells = λ b ps vs s.
-          turns _ _ _ s (rw (m, ← is, length-firsts d st, lt-leb 16 d h)) refl
-          (rw (m, ← is, ← push d (next .0) st (omega (arith, h, pre .full)), ← add-one d)
+          paints-nothing _ _ _ s (rw (m, ← is, length-firsts d (indexed st), lt-leb 16 d h)) refl
+          (rw (m, ← is, ← push d next (indexed st) (omega (arith, h, pre .full, indexed-length st)), ← indexed-set st d next, ← add-one d)
           (settled s (g .0) (then-to (d + 1) cs p (g .1) b ps vs (set st d (next .0)))));
-    }
+    })
 
 -- the target t is what T makes of the environment at the next opcode
-pub call-aimed : {t : Target} (next : WordIndex) (T : Env → Target) → ((e : Env) → t ≡ T (goto (next .0) e)) → {q : ℕ} {cs cs' st st' : List ℕ}
+pub call-aimed : {t : Target} (next : WordIndex) (T : Env → Target) → ((e : Env) → t ≡ T (goto next e)) → {q : ℕ} {cs cs' st st' : List ℕ}
     → Stacks q (does (calls t) next) cs cs' st st' → Stacks q (does (λ e. calls (T e) e) next) cs cs' st st'
 unfolding does
 call-aimed next T is p = record { cells = p .cells; deep = p .deep; tells = λ b ps vs s. rw (← is _) (p .tells b ps vs s) }
 
 module _ (o : Operands) (n : ℕ) (next : WordIndex) {cs st : List ℕ} (pre : Stacked cs st) {d : ℕ} (is : d ≡ celled cs .depth) where
-  pub back-29 : d ≡ 0 → Stacks 29 (does (rule Return o n) next) cs cs st st
+  pub back-29 : d ≡ 0 → Stacks 29 (does (rule Op.Return o n) next) cs cs st st
   back-29 z =
-      record { cells = pre .cells; deep = pre .full; tells = λ b ps vs s. stays _ _ _ s (rw (← is, length-firsts d st, eq-eqb d 0 z)) refl }
+      record { cells = pre .cells; deep = pre .full; tells = λ b ps vs s. stays _ _ _ s (rw (← is, length-firsts d (indexed st), eq-eqb d 0 z)) refl }
+
+  index : {i : WordIndex} {n : ℕ} → i .0 ≡ n → i ≡ record { 0 = n }
+  index e = λ j. record { 0 = e j }
 
   -- the last return stacked stands below the depth
-  pub back-at : (d ≡ 0 → ⊥) → {q : ℕ} {cs' cs'' : List ℕ} → Deepened (d - 1) cs cs' → (q ≡ 0) × Recelled (goto (getD st (d - 1) 0)) cs' cs''
-      → Stacks q (does (rule Return o n) next) cs cs'' st st
-  back-at h p g =
+  pub back-at : (d ≡ 0 → ⊥) → {i : WordIndex} → i .0 ≡ getD st (d - 1) 0 → {q : ℕ} {cs' cs'' : List ℕ} → Deepened (d - 1) cs cs' → (q ≡ 0) × Recelled (goto i) cs' cs''
+      → Stacks q (does (rule Op.Return o n) next) cs cs'' st st
+  back-at h {i} at p g =
       let above : suc (d - 1) ≡ d = omega (arith, h) in
       record {
         cells = g .1 .full;
         deep = pre .full;
         tells = λ b ps vs s.
-            turns _ _ _ s (rw (← is, length-firsts d st, ne-eqb d 0 h)) refl
-            (rw (← is, length-firsts d st, each d (d - 1) st (omega (arith, h)), rw above at (pop (d - 1) st))
+            paints-nothing _ _ _ s (rw (← is, length-firsts d (indexed st), ne-eqb d 0 h)) refl
+            (rw (← is, length-firsts d (indexed st), each d (d - 1) (indexed st) (omega (arith, h)), indexed-at st (d - 1), ← index at, rw above at (pop (d - 1) (indexed st)))
             (settled s (g .0) (then-to (d - 1) cs p (g .1) b ps vs st)));
       }

@@ -9,9 +9,9 @@ use lib.Signed.{leZ, ltZ}
 use Rattle.raster.specs.Shapes.{eqZ}
 use Rattle.numbers.specs.Number.{signed32, low32}
 use Rattle.numbers.proofs.Bits.{low-signed}
-use Rattle.rules.specs.Conditions.{allowed, holds}
-use Rattle.act.specs.declared.flow.Condition.the-variants.{NotAllowed, Holds}
-use Rattle.act.specs.Conditions.{told, conditionOf}
+use Rattle.rules.specs.Conditions.{allowed, met}
+use Rattle.act.specs.declared.flow.Condition.the-variants.{NotAllowed, Met}
+use Rattle.act.specs.Conditions.{meeting, conditionOf}
 
 -- ---- the order
 not-ltb : (a b : ℕ) → not (ltb a b) ≡ leb b a
@@ -47,34 +47,34 @@ eqZ-bits a b ha hb = go (eqb a b) refl
 
 -- ---- condition k of the bits a and b; t is the program's test
 module _ {k : ℕ} (a b : ℕ) where
-  pub always : k ≡ 0x0 → Holds ≡ conditionOf k a b
-  unfolding conditionOf allowed holds
+  pub always : k ≡ 0x0 → Met ≡ conditionOf k a b
+  unfolding conditionOf allowed met
   always e = rw e
 
   module _ {t : Bool} where
-    pub less : t ≡ ltZ (signed32 a) (signed32 b) → k ≡ 0x4 → told t ≡ conditionOf k a b
-    unfolding conditionOf allowed holds
+    pub less : t ≡ ltZ (signed32 a) (signed32 b) → k ≡ 0x4 → meeting t ≡ conditionOf k a b
+    unfolding conditionOf allowed met
     less p e = rw (e, p)
 
-    pub not-less : t ≡ ltZ (signed32 a) (signed32 b) → k ≡ 0x5 → told (not t) ≡ conditionOf k a b
-    unfolding conditionOf allowed holds
+    pub not-less : t ≡ ltZ (signed32 a) (signed32 b) → k ≡ 0x5 → meeting (not t) ≡ conditionOf k a b
+    unfolding conditionOf allowed met
     not-less p e = rw (e, p, not-ltZ (signed32 a) (signed32 b))
 
-    pub not-greater : t ≡ ltZ (signed32 b) (signed32 a) → k ≡ 0x6 → told (not t) ≡ conditionOf k a b
-    unfolding conditionOf allowed holds
+    pub not-greater : t ≡ ltZ (signed32 b) (signed32 a) → k ≡ 0x6 → meeting (not t) ≡ conditionOf k a b
+    unfolding conditionOf allowed met
     not-greater p e = rw (e, p, not-ltZ (signed32 b) (signed32 a))
 
-    pub greater : t ≡ ltZ (signed32 b) (signed32 a) → k ≡ 0x7 → told t ≡ conditionOf k a b
-    unfolding conditionOf allowed holds
+    pub greater : t ≡ ltZ (signed32 b) (signed32 a) → k ≡ 0x7 → meeting t ≡ conditionOf k a b
+    unfolding conditionOf allowed met
     greater p e = rw (e, p)
 
     module _ (p : t ≡ eqb a b) (ha : a < 2 ^ 32) (hb : b < 2 ^ 32) where
-      pub equal : k ≡ 0xA → told t ≡ conditionOf k a b
-      unfolding conditionOf allowed holds
+      pub equal : k ≡ 0xA → meeting t ≡ conditionOf k a b
+      unfolding conditionOf allowed met
       equal e = rw (e, p, eqZ-bits a b ha hb)
 
-      pub not-equal : k ≡ 0xB → told (not t) ≡ conditionOf k a b
-      unfolding conditionOf allowed holds
+      pub not-equal : k ≡ 0xB → meeting (not t) ≡ conditionOf k a b
+      unfolding conditionOf allowed met
       not-equal e = rw (e, p, eqZ-bits a b ha hb)
 
 -- k is none of the seven, as a `match` leaves it for its last arm

@@ -12,15 +12,15 @@ use Rattle.rules.specs.Environment.{Env}
 use Rattle.rules.specs.Opcodes.{Rule}
 use Rattle.fetch.specs.declared.source.Taken.{Taken}
 use Rattle.fetch.specs.declared.source.Taken.the-variants.{Refused, Got}
-use Rattle.fetch.specs.Stages.{Named}
-use Rattle.act.specs.Held.{look, Cells, Points, Recelled, Repointed}
+use Rattle.fetch.specs.Stages.{Destined}
+use Rattle.act.specs.Lent.{look, CellsFull, PointsFull, Recelled, Repointed}
 use Rattle.act.specs.Shown.{seen, does, answers}
-use Rattle.act.specs.Contracts.{Turns, Sets, Stacks, Moves, Paints, Draws, Brushed}
+use Rattle.act.specs.Contracts.{Goes, Sets, Stacks, Moves, Paints, Draws, Brushed}
 
-module _ {t : Taken} {n : ℕ} (f : Operands → Env → Rule) (e : t ≡ Refused n) {cs : List ℕ} (l : Cells cs) where
-  pub passed-turns : Turns n (answers t f) cs cs
+module _ {t : Taken} {n : ℕ} (f : Operands → Env → Rule) (e : t ≡ Refused n) {cs : List ℕ} (l : CellsFull cs) where
+  pub passed-goes : Goes n (answers t f) cs cs
   unfolding answers
-  passed-turns = record { cells = l; tells = λ b ps vs st s. rw e }
+  passed-goes = record { cells = l; tells = λ b ps vs st s. rw e }
 
   pub passed-sets : {vs : List ℕ} → Sets n (answers t f) cs cs vs vs
   unfolding answers
@@ -30,7 +30,7 @@ module _ {t : Taken} {n : ℕ} (f : Operands → Env → Rule) (e : t ≡ Refuse
   unfolding answers
   passed-stacks d = record { cells = l; deep = d; tells = λ b ps vs s. rw e }
 
-  pub passed-moves : {ps : List ℤ} → Points ps → Moves n (answers t f) cs cs ps ps
+  pub passed-moves : {ps : List ℤ} → PointsFull ps → Moves n (answers t f) cs cs ps ps
   unfolding answers
   passed-moves k = record { cells = l; points = k; tells = λ b vs st s. rw e }
 
@@ -38,14 +38,14 @@ module _ {t : Taken} {n : ℕ} (f : Operands → Env → Rule) (e : t ≡ Refuse
   unfolding answers
   passed-paints k = record { cells = l; brush = k; tells = λ b ps vs st. rw e }
 
-  pub passed-draws : {ps : List ℤ} {p : List ℕ} → Points ps → Brushed p → Draws n (answers t f) cs cs ps ps p
+  pub passed-draws : {ps : List ℤ} {p : List ℕ} → PointsFull ps → Brushed p → Draws n (answers t f) cs cs ps ps p
   unfolding answers
   passed-draws h k = record { cells = l; points = h; brush = k; tells = λ b vs st. rw e }
 
 module _ {t : Taken} {o : Operands} {next : WordIndex} (f : Operands → Env → Rule) (e : t ≡ Got o next) {q : ℕ} {cs cs' : List ℕ} where
-  pub got-turns : Turns q (does (f o) next) cs cs' → Turns q (answers t f) cs cs'
+  pub got-goes : Goes q (does (f o) next) cs cs' → Goes q (answers t f) cs cs'
   unfolding answers
-  got-turns p = rw e p
+  got-goes p = rw e p
 
   pub got-sets : {vs vs' : List ℕ} → Sets q (does (f o) next) cs cs' vs vs' → Sets q (answers t f) cs cs' vs vs'
   unfolding answers
@@ -81,5 +81,5 @@ pub repointed : {A : Type 0} (f : A → Env → Env) {g : Env → Env} {x y : A}
 repointed f {g} e {cs} {ps = ps} {ps' = ps'} p q b vs st = q .shows b ps' vs st ∙ ap g (p .shows b cs vs st ∙ ap (λ x. f x (look b cs ps vs st)) e)
 
 -- the destination of what was got is a variable
-pub named : {t : Taken} {o : Operands} {next : WordIndex} → t ≡ Got o next → Named t → o .dest .0 < 64
-named e p = rw e at p
+pub destined : {t : Taken} {o : Operands} {next : WordIndex} → t ≡ Got o next → Destined t → o .dest .0 < 64
+destined e p = rw e at p

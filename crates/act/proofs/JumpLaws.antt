@@ -7,29 +7,29 @@ use Rattle.numbers.specs.declared.place.WordIndex.{WordIndex}
 use Rattle.numbers.specs.declared.place.Target.{Target}
 use Rattle.numbers.specs.declared.place.Target.the-variants.{At, Refused}
 use Rattle.numbers.specs.Number.{signed32}
-use Rattle.rules.specs.Conditions.{allowed, holds}
+use Rattle.rules.specs.Conditions.{allowed, met}
 use Rattle.rules.specs.Environment.{Env, goto}
 use Rattle.rules.specs.Opcodes.{jumps}
 use Rattle.act.specs.declared.flow.Condition.{Condition}
-use Rattle.act.specs.declared.flow.Condition.the-variants.{NotAllowed, Holds, Fails}
-use Rattle.act.specs.Held.{celled, Cells, Recelled}
+use Rattle.act.specs.declared.flow.Condition.the-variants.{NotAllowed, Met, Unmet}
+use Rattle.act.specs.Lent.{celled, CellsFull, Recelled}
 use Rattle.act.specs.Shown.{does}
-use Rattle.act.specs.Conditions.{told, conditionOf}
-use Rattle.act.specs.Contracts.{Turns}
-use Rattle.act.proofs.Acting.{stays, turns}
+use Rattle.act.specs.Conditions.{meeting, conditionOf}
+use Rattle.act.specs.Contracts.{Goes}
+use Rattle.act.proofs.Acting.{stays, paints-nothing}
 use Rattle.act.proofs.Handing.{settled}
 
 -- what an answer of condition k on x and y says of the rule's two tests
 abbrev Judged : Condition → ℕ → ℕ → ℕ → Type 0
 Judged NotAllowed k x y = allowed k ≡ false
-Judged Holds k x y = (allowed k ≡ true) × (holds k (signed32 x) (signed32 y) ≡ true)
-Judged Fails k x y = (allowed k ≡ true) × (holds k (signed32 x) (signed32 y) ≡ false)
+Judged Met k x y = (allowed k ≡ true) × (met k (signed32 x) (signed32 y) ≡ true)
+Judged Unmet k x y = (allowed k ≡ true) × (met k (signed32 x) (signed32 y) ≡ false)
 
 judged : (k x y : ℕ) {c d : Condition} → c ≡ conditionOf k x y → c ≡ d → Judged d k x y
 unfolding conditionOf
-judged k x y is p = rw (sym p ∙ is) (go (allowed k) (holds k (signed32 x) (signed32 y)) refl refl)
+judged k x y is p = rw (sym p ∙ is) (go (allowed k) (met k (signed32 x) (signed32 y)) refl refl)
   where
-    go : (a h : Bool) → allowed k ≡ a → holds k (signed32 x) (signed32 y) ≡ h → Judged (cond a (told h) NotAllowed) k x y
+    go : (a h : Bool) → allowed k ≡ a → met k (signed32 x) (signed32 y) ≡ h → Judged (cond a (meeting h) NotAllowed) k x y
     go true true p q = (p, q)
     go true false p q = (p, q)
     go false h p q = p
@@ -39,25 +39,25 @@ module _ (k : ℕ) (t : Target) (next : WordIndex) (cs : List ℕ) {x y : ℕ} {
   asked : {d : Condition} → c ≡ d → Judged d k (celled cs .first) (celled cs .second)
   asked p = rw (← px, ← py) (judged k x y is p)
 
-  pub jump-24 : c ≡ NotAllowed → Cells cs → Turns 24 (does (jumps k t) next) cs cs
+  pub jump-24 : c ≡ NotAllowed → CellsFull cs → Goes 24 (does (jumps k t) next) cs cs
   jump-24 p l = record { cells = l; tells = λ b ps vs st s. stays _ _ _ s (rw (asked p)) refl }
 
-  pub jump-27 : c ≡ Holds → t ≡ Refused → Cells cs → Turns 27 (does (jumps k t) next) cs cs
+  pub jump-27 : c ≡ Met → t ≡ Refused → CellsFull cs → Goes 27 (does (jumps k t) next) cs cs
   jump-27 p m l = let j = asked p in record { cells = l; tells = λ b ps vs st s. stays _ _ _ s (rw (j .0, j .1, m)) refl }
 
   module _ {q : ℕ} {cs' : List ℕ} where
-    pub jump-no : c ≡ Fails → (q ≡ 0) × Recelled (goto (next .0)) cs cs' → Turns q (does (jumps k t) next) cs cs'
+    pub jump-no : c ≡ Unmet → (q ≡ 0) × Recelled (goto next) cs cs' → Goes q (does (jumps k t) next) cs cs'
     jump-no p g =
         let j = asked p in
-        record { cells = g .1 .full; tells = λ b ps vs st s. turns _ _ _ s (rw (j .0, j .1)) refl (rw (j .1) (settled s (g .0) (g .1 .shows b ps vs st))) }
+        record { cells = g .1 .full; tells = λ b ps vs st s. paints-nothing _ _ _ s (rw (j .0, j .1)) refl (rw (j .1) (settled s (g .0) (g .1 .shows b ps vs st))) }
 
-    pub jump-at : c ≡ Holds → {i : WordIndex} → t ≡ At i → (q ≡ 0) × Recelled (goto (i .0)) cs cs' → Turns q (does (jumps k t) next) cs cs'
+    pub jump-at : c ≡ Met → {i : WordIndex} → t ≡ At i → (q ≡ 0) × Recelled (goto i) cs cs' → Goes q (does (jumps k t) next) cs cs'
     jump-at p m g =
         let j = asked p in
-        record { cells = g .1 .full; tells = λ b ps vs st s. turns _ _ _ s (rw (j .0, j .1, m)) refl (rw (j .1, m) (settled s (g .0) (g .1 .shows b ps vs st))) }
+        record { cells = g .1 .full; tells = λ b ps vs st s. paints-nothing _ _ _ s (rw (j .0, j .1, m)) refl (rw (j .1, m) (settled s (g .0) (g .1 .shows b ps vs st))) }
 
 -- the target t is what T makes of the environment at the next opcode
-pub jump-aimed : (k : ℕ) {t : Target} (next : WordIndex) (T : Env → Target) → ((e : Env) → t ≡ T (goto (next .0) e)) → {q : ℕ} {cs cs' : List ℕ}
-    → Turns q (does (jumps k t) next) cs cs' → Turns q (does (λ e. jumps k (T e) e) next) cs cs'
+pub jump-aimed : (k : ℕ) {t : Target} (next : WordIndex) (T : Env → Target) → ((e : Env) → t ≡ T (goto next e)) → {q : ℕ} {cs cs' : List ℕ}
+    → Goes q (does (jumps k t) next) cs cs' → Goes q (does (λ e. jumps k (T e) e) next) cs cs'
 unfolding does
 jump-aimed k next T is p = record { cells = p .cells; tells = λ b ps vs st s. rw (← is _) (p .tells b ps vs st s) }

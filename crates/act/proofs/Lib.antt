@@ -1,5 +1,5 @@
 -- What the proofs of act's functions cite.
-pub mod HeldLaws
+pub mod LentLaws
 pub mod Acting
 pub mod Handing
 pub mod ValueLaws

@@ -17,59 +17,59 @@ use Rattle.raster.specs.declared.dots.Dot.{Dot}
 use Rattle.rules.specs.Opcodes.{far, shifted, dots}
 use Rattle.rules.proofs.Ranges.{one, other}
 use Rattle.rules.proofs.DoorLaws.{coord}
-use Rattle.act.specs.declared.point.Point.{Point}
-use Rattle.act.specs.declared.point.Point.the-variants as Points
-use Rattle.act.specs.Held.{celled, look}
+use Rattle.act.specs.declared.point.Point as Answer
+use Rattle.act.specs.declared.point.Point.the-variants as Point
+use Rattle.act.specs.Lent.{celled, look}
 use Rattle.act.specs.Shown.{does}
-use Rattle.act.specs.Contracts.{Paints, Near}
-use Rattle.act.specs.Points.{unless, pointOf, pointBy, paired}
+use Rattle.act.specs.Contracts.{Paints, Coords}
+use Rattle.act.specs.Point.{pointUnless, pointOf, pointBy, paired}
 
 -- s and t: x and y are within a signed word
 by-both : (s t : Bool) (x y : ℤ)
-    → paired (cond s (Within x) Outside) (cond t (Within y) Outside) ≡ cond (not (s && t)) Points.Outside (Points.At (record { x = x; y = y }))
+    → paired (cond s (Within x) Outside) (cond t (Within y) Outside) ≡ cond (not (s && t)) Point.Outside (Point.At (record { x = x; y = y }))
 by-both true true x y = refl
 by-both true false x y = refl
 by-both false t x y = refl
 
 pub judged : (p : Dot) → paired (coordinate (p .x)) (coordinate (p .y)) ≡ pointOf p
-unfolding coordinate unless
+unfolding coordinate pointUnless
 judged p = by-both (inWord (p .x)) (inWord (p .y)) (p .x) (p .y)
 
--- a value as the machine holds it, in 32 bits
-abbrev held : ℤ → ℤ
-held z = toZ w32 (ofZ w32 z)
+-- a value as the machine has it, in 32 bits
+abbrev in32 : ℤ → ℤ
+in32 z = toZ w32 (ofZ w32 z)
 
 -- offsets outside are refused; others, which the program holds as q, are added, and the sums judged
-pub no-offset : (p d : Dot) → far d ≡ true → Points.Outside ≡ pointBy p d
-unfolding unless
+pub no-offset : (p d : Dot) → far d ≡ true → Point.Outside ≡ pointBy p d
+unfolding pointUnless
 no-offset p d e = rw e
 
 pub sum-judged : (p d q : Dot) → (far d ≡ false) × (q ≡ d) → mag (p .x) < 2 ^ 31 → mag (p .y) < 2 ^ 31 → mag (q .x) < 2 ^ 31 → mag (q .y) < 2 ^ 31
-    → paired (coordinate (held (p .x) +ℤ held (q .x))) (coordinate (held (p .y) +ℤ held (q .y))) ≡ pointBy p d
+    → paired (coordinate (in32 (p .x) +ℤ in32 (q .x))) (coordinate (in32 (p .y) +ℤ in32 (q .y))) ≡ pointBy p d
 sum-judged p d q is px py qx qy = rw (same (p .x) px, same (p .y) py, same (q .x) qx, same (q .y) qy, is .1, is .0) (judged (shifted p d))
   where
-    same : (z : ℤ) → mag z < 2 ^ 31 → held z ≡ z
+    same : (z : ℤ) → mag z < 2 ^ 31 → in32 z ≡ z
     same z h = toZ-ofZ {w = w32} (record { sfits = h })
 
 -- offsets from h, which is the point p
-pub from : {h p : Dot} (d : Dot) {r : Point} → h ≡ p → r ≡ pointBy h d → r ≡ pointBy p d
+pub from : {h p : Dot} (d : Dot) {r : Answer.Point} → h ≡ p → r ≡ pointBy h d → r ≡ pointBy p d
 from d e is = is ∙ ap (λ p. pointBy p d) e
 
 -- ---- what raster draws: a point that is not far has two coordinates
-pub near : (p : Dot) → far p ≡ false → Near p
+pub near : (p : Dot) → far p ≡ false → Coords p
 near p e = let t = not-false (inWord (p .x) && inWord (p .y)) e in (coord (p .x) (one _ _ t), coord (p .y) (other (inWord (p .x)) _ t))
 
-pub near-as : {p q : Dot} → p ≡ q → Near q → Near p
+pub near-as : {p q : Dot} → p ≡ q → Coords q → Coords p
 near-as e h = rw e h
 
 -- ---- what the answer r tells of the point p
-module _ {r : Point} (out : Bool) (p : Dot) (is : r ≡ unless out p) where
-  pub told-outside : r ≡ Points.Outside → out ≡ true
-  unfolding unless
+module _ {r : Answer.Point} (out : Bool) (p : Dot) (is : r ≡ pointUnless out p) where
+  pub told-outside : r ≡ Point.Outside → out ≡ true
+  unfolding pointUnless
   told-outside e = told-first out (λ o. clash (cc)) (sym is ∙ e) .0
 
-  pub told-at : {q : Dot} → r ≡ Points.At q → (out ≡ false) × (q ≡ p)
-  unfolding unless
+  pub told-at : {q : Dot} → r ≡ Point.At q → (out ≡ false) × (q ≡ p)
+  unfolding pointUnless
   told-at e = let t = told-second out (λ o. clash (cc)) (sym is ∙ e) in (t .0, cc)
 
 -- ---- dots at d in the colour c, which is the foreground's

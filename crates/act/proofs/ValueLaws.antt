@@ -11,9 +11,12 @@ use Rattle.numbers.proofs.Division.{told-by-zero, told-gives}
 use Rattle.rules.specs.declared.opcode.Operands.{Operands}
 use Rattle.rules.specs.Environment.{Env}
 use Rattle.rules.specs.Operands.{at}
-use Rattle.rules.specs.Opcodes.{Rule, gives, refuse, old}
+use Rattle.rules.specs.Opcodes.{Rule, gives, refuse, old, rule}
 use Rattle.rules.specs.Step.{carried}
-use Rattle.act.specs.Held.{Cells}
+use Rattle.act.specs.declared.values.Calculation.{Calculation}
+use Rattle.act.specs.declared.values.Calculation.the-variants.{Sum, And, Or, Product, OneMore, OneLess}
+use Rattle.act.specs.Calculations.{calculated, opOf}
+use Rattle.act.specs.Lent.{CellsFull}
 use Rattle.act.specs.Shown.{does}
 use Rattle.act.specs.Contracts.{Sets}
 use Rattle.act.proofs.Acting.{stays}
@@ -29,17 +32,22 @@ module _ (o : Operands) (next : WordIndex) {cs vs : List ℕ} where
     unfolding does
     of-old R s = record { cells = s .cells; tells = λ b ps st scr. rw (← d) (s .tells b ps st scr) }
 
-    -- v is g of x
-    pub computed : (g : ℕ → ℕ) {v : ℕ} → v ≡ g x
-        → Sets q (does (gives v o) next) cs cs' vs vs' → Sets q (does (λ e. gives (g (old o e)) o e) next) cs cs' vs vs'
-    computed g p s = of-old (λ x. gives (g x) o) (rw p at s)
+    -- v is what a calculation makes of x and the operand
+    pub calculates : (c : Calculation) (n : ℕ) {v : ℕ} → v ≡ calculated c x (o .a)
+        → Sets q (does (gives v o) next) cs cs' vs vs' → Sets q (does (rule (opOf c) o n) next) cs cs' vs vs'
+    calculates Sum n p s = of-old (λ x. gives (calculated Sum x (o .a)) o) (rw p at s)
+    calculates And n p s = of-old (λ x. gives (calculated And x (o .a)) o) (rw p at s)
+    calculates Or n p s = of-old (λ x. gives (calculated Or x (o .a)) o) (rw p at s)
+    calculates Product n p s = of-old (λ x. gives (calculated Product x (o .a)) o) (rw p at s)
+    calculates OneMore n p s = of-old (λ x. gives (calculated OneMore x (o .a)) o) (rw p at s)
+    calculates OneLess n p s = of-old (λ x. gives (calculated OneLess x (o .a)) o) (rw p at s)
 
     pub divided : (g : ℕ → ℕ) → Sets q (does (divides (g x) o) next) cs cs' vs vs' → Sets q (does (λ e. divides (g (old o e)) o e) next) cs cs' vs vs'
     divided g s = of-old (λ x. divides (g x) o) s
 
   -- the answer x of a division that gives n
   module _ (n : ℕ) {x : Division} (is : x ≡ unlessZero (o .a) n) where
-    pub by-zero : x ≡ ByZero → Cells cs → Sets 26 (does (divides n o) next) cs cs vs vs
+    pub by-zero : x ≡ ByZero → CellsFull cs → Sets 26 (does (divides n o) next) cs cs vs vs
     by-zero z l = record { cells = l; tells = λ b ps st s. stays _ _ _ s (rw (told-by-zero (o .a) n (sym is ∙ z))) refl }
 
     pub by-other : {q v : ℕ} {cs' vs' : List ℕ} → x ≡ Gives v → Sets q (does (gives v o) next) cs cs' vs vs' → Sets q (does (divides n o) next) cs cs' vs vs'

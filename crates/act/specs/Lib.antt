@@ -1,6 +1,7 @@
 -- What the contracts of act cite.
-pub mod Held
+pub mod Lent
 pub mod Shown
 pub mod Contracts
 pub mod Conditions
-pub mod Points
+pub mod Calculations
+pub mod Point

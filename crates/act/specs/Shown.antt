@@ -19,7 +19,7 @@ seen q e p = Any.seen frame q e p
 
 -- a rule carried out, with the next opcode at an index
 unfoldable pub does : (Env → Rule) → WordIndex → Env → List ℕ → Shown
-does rule next e p = shown (carried (rule (goto (next .0) e)) e) e
+does rule next e p = shown (carried (rule (goto next e)) e) e
 
 -- the same by what was taken
 unfoldable pub answers : Taken → (Operands → Env → Rule) → Env → List ℕ → Shown

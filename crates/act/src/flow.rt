@@ -1,11 +1,14 @@
 // Jumps, calls, returns and the end of the list.
 use crate::registers::Cells;
 use crate::registers::depth;
+use crate::registers::finish;
 use crate::registers::first;
-use crate::registers::go_to;
 use crate::registers::second;
 use crate::registers::set_depth;
 use crate::registers::set_state;
+use crate::stack::Stack;
+use crate::stack::stack_at;
+use crate::stack::stacked_at;
 use fetch::source::Taken;
 use numbers::arith::equal;
 use numbers::arith::less;
@@ -14,30 +17,26 @@ use numbers::place::Target;
 use numbers::place::WordIndex;
 use numbers::place::word_at;
 use numbers::place::word_from;
-use rules::opcode::Op;
 use rules::opcode::Operands;
 ghost use mathlib.Core.Path.{_≡_};
 ghost use Prim.Native.Nat.{ℕ};
+ghost use Rattle.rules.specs.Op as Op;
 ghost use Rattle.rules.specs.Opcodes.{jumps, calls, rule};
-ghost use Rattle.act.specs.Held.{Cells};
+ghost use Rattle.act.specs.Lent.{CellsFull};
 ghost use Rattle.act.specs.Shown.{does, answers};
 ghost use Rattle.act.specs.Conditions as Conditions;
-ghost use Rattle.act.specs.Contracts.{Turns, Stacks, Stacked};
+ghost use Rattle.act.specs.Contracts.{Goes, Stacks, Stacked};
 
 pub enum Condition {
     NotAllowed,
-    Holds,
-    Fails,
+    Met,
+    Unmet,
 }
 
-fn told(b: bool) -> Condition
-    ensures { λ c. ⌜ c ≡ Conditions.told b ⌝ }
+fn meeting(b: bool) -> Condition
+    ensures { λ c. ⌜ c ≡ Conditions.meeting b ⌝ }
 {
-    if b {
-        Condition::Holds
-    } else {
-        Condition::Fails
-    }
+    if b { Condition::Met } else { Condition::Unmet }
 }
 
 // The seven conditions, by 004's numbers.
@@ -45,36 +44,37 @@ fn condition_of(k: u32, first: u32, second: u32) -> Condition
     ensures { λ c. ⌜ c ≡ Conditions.conditionOf k first second ⌝ }
 {
     match k {
-        0x0 => Condition::Holds,
-        0x4 => told(less(first, second)),
-        0x5 => told(!less(first, second)),
-        0x6 => told(!less(second, first)),
-        0x7 => told(less(second, first)),
-        0xA => told(equal(first, second)),
-        0xB => told(!equal(first, second)),
+        0x0 => Condition::Met,
+        0x4 => meeting(less(first, second)),
+        0x5 => meeting(!less(first, second)),
+        0x6 => meeting(!less(second, first)),
+        0x7 => meeting(less(second, first)),
+        0xA => meeting(equal(first, second)),
+        0xB => meeting(!equal(first, second)),
         _ => Condition::NotAllowed,
     }
 }
 
 // A jump on condition k: one not taken does not look at its target.
 fn jump_to(k: u32, t: Target, next: WordIndex, cells: &mut Cells) -> u8
-    requires { ⌜ Cells (now cells) ⌝ }
-    ensures { λ q. ⌜ Turns q (does (jumps k t) next) (now (cells .entry)) (now (cells .exit)) ⌝ }
+    requires { ⌜ CellsFull (now cells) ⌝ }
+    ensures { λ q. ⌜ Goes q (does (jumps k t) next) (now (cells .entry)) (now (cells .exit)) ⌝ }
 {
     let c = condition_of(k, first(&*cells), second(&*cells));
     match c {
         Condition::NotAllowed => 24,
-        Condition::Fails => go_to(cells, next),
-        Condition::Holds => match t {
+        Condition::Unmet => finish(cells, next),
+        Condition::Met => match t {
             Target::Refused => 27,
-            Target::At(i) => go_to(cells, i),
+            Target::At(i) => finish(cells, i),
         },
     }
 }
 
+// a: the condition; b: the target's bit address.
 pub fn jump(t: Taken, count: u32, cells: &mut Cells) -> u8
-    requires { ⌜ Cells (now cells) ⌝ }
-    ensures { λ q. ⌜ Turns q (answers t (λ o. rule Op.Jump o count)) (now (cells .entry)) (now (cells .exit)) ⌝ }
+    requires { ⌜ CellsFull (now cells) ⌝ }
+    ensures { λ q. ⌜ Goes q (answers t (λ o. rule Op.Jump o count)) (now (cells .entry)) (now (cells .exit)) ⌝ }
 {
     match t {
         Taken::Refused(n) => n,
@@ -82,9 +82,10 @@ pub fn jump(t: Taken, count: u32, cells: &mut Cells) -> u8
     }
 }
 
+// a: the condition; b: the offset in words.
 pub fn jump_by(t: Taken, count: u32, cells: &mut Cells) -> u8
-    requires { ⌜ Cells (now cells) ⌝ }
-    ensures { λ q. ⌜ Turns q (answers t (λ o. rule Op.JumpBy o count)) (now (cells .entry)) (now (cells .exit)) ⌝ }
+    requires { ⌜ CellsFull (now cells) ⌝ }
+    ensures { λ q. ⌜ Goes q (answers t (λ o. rule Op.JumpBy o count)) (now (cells .entry)) (now (cells .exit)) ⌝ }
 {
     match t {
         Taken::Refused(n) => n,
@@ -93,7 +94,7 @@ pub fn jump_by(t: Taken, count: u32, cells: &mut Cells) -> u8
 }
 
 // A call: the return index is the next opcode's.
-fn call_to(t: Target, next: WordIndex, cells: &mut Cells, stack: &mut [u32; 16]) -> u8
+fn call_to(t: Target, next: WordIndex, cells: &mut Cells, stack: &mut Stack) -> u8
     requires { ⌜ Stacked (now cells) (now stack) ⌝ }
     ensures { λ q. ⌜ Stacks q (does (calls t) next) (now (cells .entry)) (now (cells .exit)) (now (stack .entry)) (now (stack .exit)) ⌝ }
 {
@@ -104,15 +105,15 @@ fn call_to(t: Target, next: WordIndex, cells: &mut Cells, stack: &mut [u32; 16])
             if 16 <= d {
                 return 28;
             }
-            let at = d as usize;
-            stack[at] = next.0;
+            stack_at(stack, d, next);
             set_depth(cells, d + 1);
-            go_to(cells, i)
+            finish(cells, i)
         }
     }
 }
 
-pub fn call(t: Taken, count: u32, cells: &mut Cells, stack: &mut [u32; 16]) -> u8
+// a: the target's bit address.
+pub fn call(t: Taken, count: u32, cells: &mut Cells, stack: &mut Stack) -> u8
     requires { ⌜ Stacked (now cells) (now stack) ⌝ }
     ensures { λ q.
         ⌜ Stacks q (answers t (λ o. rule Op.Call o count))
@@ -124,7 +125,8 @@ pub fn call(t: Taken, count: u32, cells: &mut Cells, stack: &mut [u32; 16]) -> u
     }
 }
 
-pub fn call_by(t: Taken, count: u32, cells: &mut Cells, stack: &mut [u32; 16]) -> u8
+// a: the offset in words.
+pub fn call_by(t: Taken, count: u32, cells: &mut Cells, stack: &mut Stack) -> u8
     requires { ⌜ Stacked (now cells) (now stack) ⌝ }
     ensures { λ q.
         ⌜ Stacks q (answers t (λ o. rule Op.CallBy o count))
@@ -137,7 +139,7 @@ pub fn call_by(t: Taken, count: u32, cells: &mut Cells, stack: &mut [u32; 16]) -
 }
 
 // To the last return stacked, untested.
-fn back(cells: &mut Cells, stack: &[u32; 16]) -> u8
+fn back(cells: &mut Cells, stack: &Stack) -> u8
     requires { ⌜ Stacked (now cells) (now stack) ⌝ }
     ensures { λ q.
         ⌜ ((o : Operands) (n : ℕ) (next : WordIndex)
@@ -147,12 +149,11 @@ fn back(cells: &mut Cells, stack: &[u32; 16]) -> u8
     if d == 0 {
         return 29;
     }
-    let at = (d - 1) as usize;
     set_depth(cells, d - 1);
-    go_to(cells, WordIndex(stack[at]))
+    finish(cells, stacked_at(stack, d - 1))
 }
 
-pub fn come_back(t: Taken, cells: &mut Cells, stack: &[u32; 16]) -> u8
+pub fn come_back(t: Taken, cells: &mut Cells, stack: &Stack) -> u8
     requires { ⌜ Stacked (now cells) (now stack) ⌝ }
     ensures { λ q.
         ⌜ ((n : ℕ) → Stacks q (answers t (λ o. rule Op.Return o n))
@@ -165,24 +166,24 @@ pub fn come_back(t: Taken, cells: &mut Cells, stack: &[u32; 16]) -> u8
 }
 
 pub fn noop(t: Taken, cells: &mut Cells) -> u8
-    requires { ⌜ Cells (now cells) ⌝ }
-    ensures { λ q. ⌜ ((n : ℕ) → Turns q (answers t (λ o. rule Op.Noop o n)) (now (cells .entry)) (now (cells .exit))) ⌝ }
+    requires { ⌜ CellsFull (now cells) ⌝ }
+    ensures { λ q. ⌜ ((n : ℕ) → Goes q (answers t (λ o. rule Op.Noop o n)) (now (cells .entry)) (now (cells .exit))) ⌝ }
 {
     match t {
         Taken::Refused(n) => n,
-        Taken::Got(_, next) => go_to(cells, next),
+        Taken::Got(_, next) => finish(cells, next),
     }
 }
 
 pub fn end(t: Taken, cells: &mut Cells) -> u8
-    requires { ⌜ Cells (now cells) ⌝ }
-    ensures { λ q. ⌜ ((n : ℕ) → Turns q (answers t (λ o. rule Op.End o n)) (now (cells .entry)) (now (cells .exit))) ⌝ }
+    requires { ⌜ CellsFull (now cells) ⌝ }
+    ensures { λ q. ⌜ ((n : ℕ) → Goes q (answers t (λ o. rule Op.End o n)) (now (cells .entry)) (now (cells .exit))) ⌝ }
 {
     match t {
         Taken::Refused(n) => n,
         Taken::Got(_, next) => {
             set_state(cells, 1);
-            go_to(cells, next)
+            finish(cells, next)
         }
     }
 }

@@ -1,8 +1,9 @@
 // What was fetched is carried out, or refused with one of 24 to 29 and nothing changed: the number, or 0, or 1 where the
 // brush holds what is to be painted.
 pub mod registers; // the registers, lent as two arrays
+pub mod stack; // the stacked returns, lent as an array
 pub mod values; // variables and the values compared
 pub mod flow; // jumps, calls, returns and the end
-pub mod point; // two values, or two offsets, as a point
+mod point; // two values, or two offsets, as a point
 pub mod pen; // clip mode and window, colour, position
 pub mod painting; // dots, lines and clearing, held in the brush

@@ -5,25 +5,27 @@ use crate::point::point_of;
 use crate::registers::Cells;
 use crate::registers::Points;
 use crate::registers::colour;
-use crate::registers::go_painting;
+use crate::registers::finish_painting;
 use crate::registers::position;
 use crate::registers::set_position;
 use fetch::source::Taken;
 use numbers::place::WordIndex;
+use numbers::value::low8;
 use raster::brush::Brush;
 use raster::brush::hold_all;
 use raster::brush::hold_dot;
 use raster::brush::hold_line;
 use raster::dots::Dot;
 use raster::line::Line;
-use rules::opcode::Op;
+ghost use mathlib.Core.Path.{_≡_};
 ghost use Prim.Native.Nat.{ℕ};
 ghost use Rattle.raster.specs.Line as Lines;
 ghost use Rattle.rules.specs.Environment.{moved};
+ghost use Rattle.rules.specs.Op as Op;
 ghost use Rattle.rules.specs.Opcodes as Opcodes;
 ghost use Rattle.rules.specs.Opcodes.{dots, paints, rule};
 ghost use Rattle.act.specs.Shown.{does, answers};
-ghost use Rattle.act.specs.Contracts.{Paints, Draws, Handed, Drawable, Near};
+ghost use Rattle.act.specs.Contracts.{Paints, Draws, Handed, Drawable, Coords};
 
 // One dot at the point (x, y).
 fn dot_at(x: u32, y: u32, c: u8, next: WordIndex, cells: &mut Cells, brush: &mut Brush) -> u8
@@ -36,9 +38,10 @@ fn dot_at(x: u32, y: u32, c: u8, next: WordIndex, cells: &mut Cells, brush: &mut
         return 25;
     };
     hold_dot(brush, p, c);
-    go_painting(cells, next)
+    finish_painting(cells, next)
 }
 
+// a, b: x and y.
 pub fn pixel(t: Taken, cells: &mut Cells, brush: &mut Brush) -> u8
     requires { ⌜ Handed (now cells) (now brush) ⌝ }
     ensures { λ q.
@@ -54,6 +57,7 @@ pub fn pixel(t: Taken, cells: &mut Cells, brush: &mut Brush) -> u8
     }
 }
 
+// a, b: x and y; c: the colour's long.
 pub fn pixel_colour(t: Taken, cells: &mut Cells, brush: &mut Brush) -> u8
     requires { ⌜ Handed (now cells) (now brush) ⌝ }
     ensures { λ q.
@@ -63,13 +67,20 @@ pub fn pixel_colour(t: Taken, cells: &mut Cells, brush: &mut Brush) -> u8
     match t {
         Taken::Refused(n) => n,
         Taken::Got(o, next) => {
-            let c = (o.c % 256) as u8;
+            let c = low8(o.c);
             dot_at(o.a, o.b, c, next, cells, brush)
         }
     }
 }
 
-// A line in the foreground colour.
+// Only lines of type 0 are drawn.
+fn other_type(given: u32) -> bool
+    ensures { λ r. ⌜ r ≡ Opcodes.otherType given ⌝ }
+{
+    0 < given
+}
+
+// A line in the foreground colour. a: its type; b, c: x0 and y0; d, e: x1 and y1.
 pub fn line(t: Taken, cells: &mut Cells, brush: &mut Brush) -> u8
     requires { ⌜ Handed (now cells) (now brush) ⌝ }
     ensures { λ q.
@@ -79,7 +90,7 @@ pub fn line(t: Taken, cells: &mut Cells, brush: &mut Brush) -> u8
     match t {
         Taken::Refused(n) => n,
         Taken::Got(o, next) => {
-            if 0 < o.a {
+            if other_type(o.a) {
                 return 24;
             }
             let Point::At(p) = point_of(o.b, o.c) else {
@@ -89,14 +100,14 @@ pub fn line(t: Taken, cells: &mut Cells, brush: &mut Brush) -> u8
                 return 25;
             };
             hold_line(brush, Line { from: p, to: q }, colour(&*cells));
-            go_painting(cells, next)
+            finish_painting(cells, next)
         }
     }
 }
 
 // A line from the position to q, and the position there.
 fn draw_to(q: Dot, next: WordIndex, cells: &mut Cells, points: &mut Points, brush: &mut Brush) -> u8
-    requires { ⌜ Drawable (now cells) (now points) (now brush) × Near q ⌝ }
+    requires { ⌜ Drawable (now cells) (now points) (now brush) × Coords q ⌝ }
     ensures { λ r.
         ⌜ Draws r (does (λ e. paints (Lines.line (record { from = e .pen .position; to = q })) (e .pen .colour) (moved q e)) next)
         (now (cells .entry)) (now (cells .exit)) (now (points .entry)) (now (points .exit)) (now (brush .exit)) ⌝ }
@@ -104,9 +115,10 @@ fn draw_to(q: Dot, next: WordIndex, cells: &mut Cells, points: &mut Points, brus
     let here = position(&*points);
     hold_line(brush, Line { from: here, to: q }, colour(&*cells));
     set_position(points, q);
-    go_painting(cells, next)
+    finish_painting(cells, next)
 }
 
+// a: the line's type; b, c: x and y.
 pub fn line_to(t: Taken, cells: &mut Cells, points: &mut Points, brush: &mut Brush) -> u8
     requires { ⌜ Drawable (now cells) (now points) (now brush) ⌝ }
     ensures { λ q.
@@ -116,7 +128,7 @@ pub fn line_to(t: Taken, cells: &mut Cells, points: &mut Points, brush: &mut Bru
     match t {
         Taken::Refused(n) => n,
         Taken::Got(o, next) => {
-            if 0 < o.a {
+            if other_type(o.a) {
                 return 24;
             }
             let Point::At(q) = point_of(o.b, o.c) else {
@@ -127,6 +139,7 @@ pub fn line_to(t: Taken, cells: &mut Cells, points: &mut Points, brush: &mut Bru
     }
 }
 
+// a: the line's type; b, c: dx and dy.
 pub fn line_by(t: Taken, cells: &mut Cells, points: &mut Points, brush: &mut Brush) -> u8
     requires { ⌜ Drawable (now cells) (now points) (now brush) ⌝ }
     ensures { λ q.
@@ -136,7 +149,7 @@ pub fn line_by(t: Taken, cells: &mut Cells, points: &mut Points, brush: &mut Bru
     match t {
         Taken::Refused(n) => n,
         Taken::Got(o, next) => {
-            if 0 < o.a {
+            if other_type(o.a) {
                 return 24;
             }
             let here = position(&*points);
@@ -148,7 +161,7 @@ pub fn line_by(t: Taken, cells: &mut Cells, points: &mut Points, brush: &mut Bru
     }
 }
 
-// Every drawable pixel; the wait word is ignored.
+// Every drawable pixel. a: the colour's long; b: the wait word, which is ignored.
 pub fn clear(t: Taken, cells: &mut Cells, brush: &mut Brush) -> u8
     requires { ⌜ Handed (now cells) (now brush) ⌝ }
     ensures { λ q.
@@ -158,8 +171,8 @@ pub fn clear(t: Taken, cells: &mut Cells, brush: &mut Brush) -> u8
     match t {
         Taken::Refused(n) => n,
         Taken::Got(o, next) => {
-            hold_all(brush, (o.a % 256) as u8);
-            go_painting(cells, next)
+            hold_all(brush, low8(o.a));
+            finish_painting(cells, next)
         }
     }
 }

@@ -4,27 +4,29 @@ use crate::point::point_by;
 use crate::point::point_of;
 use crate::registers::Cells;
 use crate::registers::Points;
-use crate::registers::go_to;
+use crate::registers::finish;
 use crate::registers::position;
 use crate::registers::set_colour;
 use crate::registers::set_mode;
 use crate::registers::set_position;
 use crate::registers::set_window;
 use fetch::source::Taken;
+use numbers::value::low8;
 use raster::dots::Dot;
 use raster::frame::Window;
-use rules::opcode::Op;
 ghost use mathlib.Core.Path.{_≡_};
 ghost use Prim.Native.Nat.{ℕ};
+ghost use Rattle.rules.specs.Op as Op;
 ghost use Rattle.rules.specs.Opcodes as Opcodes;
 ghost use Rattle.rules.specs.Opcodes.{rule};
-ghost use Rattle.act.specs.Held.{Cells, Points};
+ghost use Rattle.act.specs.Lent.{CellsFull, PointsFull};
 ghost use Rattle.act.specs.Shown.{answers};
-ghost use Rattle.act.specs.Contracts.{Turns, Moves};
+ghost use Rattle.act.specs.Contracts.{Goes, Moves};
 
+// a: the mode.
 pub fn clip_mode(t: Taken, cells: &mut Cells) -> u8
-    requires { ⌜ Cells (now cells) ⌝ }
-    ensures { λ q. ⌜ ((n : ℕ) → Turns q (answers t (λ o. rule Op.ClipMode o n)) (now (cells .entry)) (now (cells .exit))) ⌝ }
+    requires { ⌜ CellsFull (now cells) ⌝ }
+    ensures { λ q. ⌜ ((n : ℕ) → Goes q (answers t (λ o. rule Op.ClipMode o n)) (now (cells .entry)) (now (cells .exit))) ⌝ }
 {
     match t {
         Taken::Refused(n) => n,
@@ -33,7 +35,7 @@ pub fn clip_mode(t: Taken, cells: &mut Cells) -> u8
                 return 24;
             }
             set_mode(cells, o.a);
-            go_to(cells, next)
+            finish(cells, next)
         }
     }
 }
@@ -50,8 +52,9 @@ fn window(p: Dot, q: Dot) -> Window
     }
 }
 
+// a, b: x0 and y0; c, d: x1 and y1.
 pub fn clip_window(t: Taken, cells: &mut Cells, points: &mut Points) -> u8
-    requires { ⌜ Cells (now cells) × Points (now points) ⌝ }
+    requires { ⌜ CellsFull (now cells) × PointsFull (now points) ⌝ }
     ensures { λ q.
         ⌜ ((n : ℕ) → Moves q (answers t (λ o. rule Op.ClipWindow o n))
         (now (cells .entry)) (now (cells .exit)) (now (points .entry)) (now (points .exit))) ⌝ }
@@ -66,27 +69,28 @@ pub fn clip_window(t: Taken, cells: &mut Cells, points: &mut Points) -> u8
                 return 25;
             };
             set_window(points, window(p, q));
-            go_to(cells, next)
+            finish(cells, next)
         }
     }
 }
 
-// The low 8 bits.
+// The low 8 bits. a: the colour's long.
 pub fn colour(t: Taken, cells: &mut Cells) -> u8
-    requires { ⌜ Cells (now cells) ⌝ }
-    ensures { λ q. ⌜ ((n : ℕ) → Turns q (answers t (λ o. rule Op.Colour o n)) (now (cells .entry)) (now (cells .exit))) ⌝ }
+    requires { ⌜ CellsFull (now cells) ⌝ }
+    ensures { λ q. ⌜ ((n : ℕ) → Goes q (answers t (λ o. rule Op.Colour o n)) (now (cells .entry)) (now (cells .exit))) ⌝ }
 {
     match t {
         Taken::Refused(n) => n,
         Taken::Got(o, next) => {
-            set_colour(cells, (o.a % 256) as u8);
-            go_to(cells, next)
+            set_colour(cells, low8(o.a));
+            finish(cells, next)
         }
     }
 }
 
+// a, b: x and y.
 pub fn move_to(t: Taken, cells: &mut Cells, points: &mut Points) -> u8
-    requires { ⌜ Cells (now cells) × Points (now points) ⌝ }
+    requires { ⌜ CellsFull (now cells) × PointsFull (now points) ⌝ }
     ensures { λ q.
         ⌜ ((n : ℕ) → Moves q (answers t (λ o. rule Op.MoveTo o n))
         (now (cells .entry)) (now (cells .exit)) (now (points .entry)) (now (points .exit))) ⌝ }
@@ -98,13 +102,14 @@ pub fn move_to(t: Taken, cells: &mut Cells, points: &mut Points) -> u8
                 return 25;
             };
             set_position(points, p);
-            go_to(cells, next)
+            finish(cells, next)
         }
     }
 }
 
+// a, b: dx and dy.
 pub fn move_by(t: Taken, cells: &mut Cells, points: &mut Points) -> u8
-    requires { ⌜ Cells (now cells) × Points (now points) ⌝ }
+    requires { ⌜ CellsFull (now cells) × PointsFull (now points) ⌝ }
     ensures { λ q.
         ⌜ ((n : ℕ) → Moves q (answers t (λ o. rule Op.MoveBy o n))
         (now (cells .entry)) (now (cells .exit)) (now (points .entry)) (now (points .exit))) ⌝ }
@@ -117,7 +122,7 @@ pub fn move_by(t: Taken, cells: &mut Cells, points: &mut Points) -> u8
                 return 25;
             };
             set_position(points, p);
-            go_to(cells, next)
+            finish(cells, next)
         }
     }
 }

@@ -1,12 +1,12 @@
 // Points: two values, or two offsets from a point, each coordinate judged.
 use numbers::coordinate::Coordinate;
 use numbers::coordinate::coordinate_of;
-use numbers::coordinate::moved;
+use numbers::coordinate::shifted;
 use raster::dots::Dot;
 ghost use mathlib.Core.Path.{_≡_};
 ghost use Rattle.rules.specs.Opcodes as Opcodes;
-ghost use Rattle.act.specs.Points as Points;
-ghost use Rattle.act.specs.Points.{pointOf, pointBy};
+ghost use Rattle.act.specs.Point as Judged;
+ghost use Rattle.act.specs.Point.{pointOf, pointBy};
 
 pub enum Point {
     At(Dot),
@@ -14,7 +14,7 @@ pub enum Point {
 }
 
 fn paired(x: Coordinate, y: Coordinate) -> Point
-    ensures { λ p. ⌜ p ≡ Points.paired x y ⌝ }
+    ensures { λ p. ⌜ p ≡ Judged.paired x y ⌝ }
 {
     let Coordinate::Within(x) = x else {
         return Point::Outside;
@@ -39,5 +39,5 @@ pub fn point_by(from: Dot, a: u32, b: u32) -> Point
     let Point::At(d) = point_of(a, b) else {
         return Point::Outside;
     };
-    paired(moved(from.x, d.x), moved(from.y, d.y))
+    paired(shifted(from.x, d.x), shifted(from.y, d.y))
 }

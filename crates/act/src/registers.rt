@@ -1,5 +1,6 @@
 // The registers that opcodes change, lent as two arrays.
 use numbers::place::WordIndex;
+use numbers::value::low8;
 use raster::dots::Dot;
 use raster::frame::Bounds;
 use raster::frame::Frame;
@@ -9,9 +10,9 @@ ghost use mathlib.Core.Path.{_≡_};
 ghost use mathlib.Core.List.{List};
 ghost use Prim.Native.Nat.{ℕ};
 ghost use Rattle.rules.specs.Environment as Environment;
-ghost use Rattle.rules.specs.Environment.{goto, compared, clipped, coloured, turned, moved, windowed, stateOf};
-ghost use Rattle.act.specs.Held as Held;
-ghost use Rattle.act.specs.Held.{registers, celled, pointed, look, Cells, Points, Recelled, Repointed, Deepened};
+ghost use Rattle.rules.specs.Environment.{goto, compared, clipped, coloured, stated, moved, windowed, stateOf};
+ghost use Rattle.act.specs.Lent as Lent;
+ghost use Rattle.act.specs.Lent.{registers, celled, pointed, look, CellsFull, PointsFull, Recelled, Repointed, Deepened};
 
 // Numbers, each at the place where the functions below read it.
 pub type Cells = [u32; 7];
@@ -21,7 +22,7 @@ pub type Points = [i32; 6];
 
 // Spread over the two arrays.
 pub fn cells_of(r: Registers) -> Cells
-    ensures { λ c. ⌜ Held.Spread r c ⌝ }
+    ensures { λ c. ⌜ Lent.Spread r c ⌝ }
 {
     [
         r.counter.0,
@@ -35,7 +36,7 @@ pub fn cells_of(r: Registers) -> Cells
 }
 
 pub fn points_of(r: Registers) -> Points
-    ensures { λ p. ⌜ p ≡ Held.points r ⌝ }
+    ensures { λ p. ⌜ p ≡ Lent.points r ⌝ }
 {
     let p = r.position;
     let w = r.window;
@@ -65,21 +66,28 @@ pub fn counter(cells: &Cells) -> WordIndex
     WordIndex(cells[0])
 }
 
-// The last thing that an opcode does: nothing is to be painted.
-pub fn go_to(cells: &mut Cells, i: WordIndex) -> u8
-    requires { ⌜ Cells (now cells) ⌝ }
-    ensures { λ q. ⌜ (q ≡ 0) × Recelled (goto (i .0)) (now (cells .entry)) (now (cells .exit)) ⌝ }
+fn set_counter(cells: &mut Cells, i: WordIndex)
+    requires { ⌜ CellsFull (now cells) ⌝ }
+    ensures { λ _. ⌜ Recelled (goto i) (now (cells .entry)) (now (cells .exit)) ⌝ }
 {
     cells[0] = i.0;
+}
+
+// The last thing that an opcode does: the list goes on at i, and 0, nothing is to be painted.
+pub fn finish(cells: &mut Cells, i: WordIndex) -> u8
+    requires { ⌜ CellsFull (now cells) ⌝ }
+    ensures { λ q. ⌜ (q ≡ 0) × Recelled (goto i) (now (cells .entry)) (now (cells .exit)) ⌝ }
+{
+    set_counter(cells, i);
     0
 }
 
-// The same, and what the brush holds is to be painted.
-pub fn go_painting(cells: &mut Cells, i: WordIndex) -> u8
-    requires { ⌜ Cells (now cells) ⌝ }
-    ensures { λ q. ⌜ (q ≡ 1) × Recelled (goto (i .0)) (now (cells .entry)) (now (cells .exit)) ⌝ }
+// The same of an opcode that paints: 1, what the brush holds is to be painted.
+pub fn finish_painting(cells: &mut Cells, i: WordIndex) -> u8
+    requires { ⌜ CellsFull (now cells) ⌝ }
+    ensures { λ q. ⌜ (q ≡ 1) × Recelled (goto i) (now (cells .entry)) (now (cells .exit)) ⌝ }
 {
-    cells[0] = i.0;
+    set_counter(cells, i);
     1
 }
 
@@ -96,7 +104,7 @@ pub fn second(cells: &Cells) -> u32
 }
 
 pub fn keep_compared(cells: &mut Cells, first: u32, second: u32)
-    requires { ⌜ Cells (now cells) ⌝ }
+    requires { ⌜ CellsFull (now cells) ⌝ }
     ensures { λ _. ⌜ Recelled (compared first second) (now (cells .entry)) (now (cells .exit)) ⌝ }
 {
     cells[1] = first;
@@ -110,7 +118,7 @@ pub fn depth(cells: &Cells) -> u32
 }
 
 pub fn set_depth(cells: &mut Cells, n: u32)
-    requires { ⌜ Cells (now cells) ⌝ }
+    requires { ⌜ CellsFull (now cells) ⌝ }
     ensures { λ _. ⌜ Deepened n (now (cells .entry)) (now (cells .exit)) ⌝ }
 {
     cells[3] = n;
@@ -123,7 +131,7 @@ pub fn mode(cells: &Cells) -> u32
 }
 
 pub fn set_mode(cells: &mut Cells, n: u32)
-    requires { ⌜ Cells (now cells) ⌝ }
+    requires { ⌜ CellsFull (now cells) ⌝ }
     ensures { λ _. ⌜ Recelled (clipped n) (now (cells .entry)) (now (cells .exit)) ⌝ }
 {
     cells[4] = n;
@@ -132,11 +140,11 @@ pub fn set_mode(cells: &mut Cells, n: u32)
 pub fn colour(cells: &Cells) -> u8
     ensures { λ r. ⌜ r ≡ celled (now (cells .entry)) .colour ⌝ }
 {
-    (cells[5] % 256) as u8
+    low8(cells[5])
 }
 
 pub fn set_colour(cells: &mut Cells, c: u8)
-    requires { ⌜ Cells (now cells) ⌝ }
+    requires { ⌜ CellsFull (now cells) ⌝ }
     ensures { λ _. ⌜ Recelled (coloured c) (now (cells .entry)) (now (cells .exit)) ⌝ }
 {
     cells[5] = c as u32;
@@ -145,12 +153,12 @@ pub fn set_colour(cells: &mut Cells, c: u8)
 pub fn state(cells: &Cells) -> u8
     ensures { λ r. ⌜ r ≡ celled (now (cells .entry)) .state ⌝ }
 {
-    (cells[6] % 256) as u8
+    low8(cells[6])
 }
 
 pub fn set_state(cells: &mut Cells, n: u8)
-    requires { ⌜ Cells (now cells) ⌝ }
-    ensures { λ _. ⌜ Recelled (turned (stateOf n)) (now (cells .entry)) (now (cells .exit)) ⌝ }
+    requires { ⌜ CellsFull (now cells) ⌝ }
+    ensures { λ _. ⌜ Recelled (stated (stateOf n)) (now (cells .entry)) (now (cells .exit)) ⌝ }
 {
     cells[6] = n as u32;
 }
@@ -165,7 +173,7 @@ pub fn position(points: &Points) -> Dot
 }
 
 pub fn set_position(points: &mut Points, p: Dot)
-    requires { ⌜ Points (now points) ⌝ }
+    requires { ⌜ PointsFull (now points) ⌝ }
     ensures { λ _. ⌜ Repointed (moved p) (now (points .entry)) (now (points .exit)) ⌝ }
 {
     let x = p.x;
@@ -186,7 +194,7 @@ pub fn window(points: &Points) -> Window
 }
 
 pub fn set_window(points: &mut Points, w: Window)
-    requires { ⌜ Points (now points) ⌝ }
+    requires { ⌜ PointsFull (now points) ⌝ }
     ensures { λ _. ⌜ Repointed (windowed w) (now (points .entry)) (now (points .exit)) ⌝ }
 {
     let x0 = w.x0;

@@ -1,21 +1,23 @@
-// Variables: loading, arithmetic, logic, and the two values compared.
+// Variables: loading, arithmetic, logic, and the two values compared. a: the value on the left; dest: Vd, on the right.
 use crate::registers::Cells;
-use crate::registers::go_to;
+use crate::registers::finish;
 use crate::registers::keep_compared;
 use fetch::source::Taken;
 use numbers::arith;
 use numbers::arith::Division;
 use numbers::place::WordIndex;
-use rules::opcode::Op;
 use rules::opcode::Operands;
 ghost use mathlib.Core.Path.{_≡_};
 ghost use Prim.Native.Nat.{ℕ, _<_};
 ghost use lib.Dec.{eqb};
 ghost use Rattle.numbers.specs.Number.{unlessZero};
 ghost use Rattle.rules.specs.Operands.{at};
+ghost use Rattle.rules.specs.Op as Op;
 ghost use Rattle.rules.specs.Opcodes.{gives, refuse, rule};
-ghost use Rattle.fetch.specs.Stages.{Named};
-ghost use Rattle.act.specs.Held.{Cells};
+ghost use Rattle.fetch.specs.Stages.{Destined};
+ghost use Rattle.act.specs.Lent.{CellsFull};
+ghost use Rattle.act.specs.Calculations as Calculations;
+ghost use Rattle.act.specs.Calculations.{opOf};
 ghost use Rattle.act.specs.Shown.{does, answers};
 ghost use Rattle.act.specs.Contracts.{Sets};
 
@@ -30,16 +32,16 @@ fn old(o: Operands, vars: &[u32; 64]) -> u32
 
 // A value into Vd.
 fn put(o: Operands, next: WordIndex, v: u32, cells: &mut Cells, vars: &mut [u32; 64]) -> u8
-    requires { ⌜ (o .dest .0 < 64) × Cells (now cells) ⌝ }
+    requires { ⌜ (o .dest .0 < 64) × CellsFull (now cells) ⌝ }
     ensures { λ q. ⌜ Sets q (does (gives v o) next) (now (cells .entry)) (now (cells .exit)) (now (vars .entry)) (now (vars .exit)) ⌝ }
 {
     let d = o.dest.0 as usize;
     vars[d] = v;
-    go_to(cells, next)
+    finish(cells, next)
 }
 
 pub fn load(t: Taken, cells: &mut Cells, vars: &mut [u32; 64]) -> u8
-    requires { ⌜ Named t × Cells (now cells) ⌝ }
+    requires { ⌜ Destined t × CellsFull (now cells) ⌝ }
     ensures { λ q.
         ⌜ ((n : ℕ) → Sets q (answers t (λ o. rule Op.Load o n))
         (now (cells .entry)) (now (cells .exit)) (now (vars .entry)) (now (vars .exit))) ⌝ }
@@ -50,94 +52,96 @@ pub fn load(t: Taken, cells: &mut Cells, vars: &mut [u32; 64]) -> u8
     }
 }
 
+// What is made of Vd's value and the operand.
+enum Calculation {
+    Sum,
+    And,
+    Or,
+    Product,
+    OneMore,
+    OneLess,
+}
+
+fn calculated(c: Calculation, old: u32, a: u32) -> u32
+    ensures { λ r. ⌜ r ≡ Calculations.calculated c old a ⌝ }
+{
+    match c {
+        Calculation::Sum => arith::add(old, a),
+        Calculation::And => arith::and(old, a),
+        Calculation::Or => arith::or(old, a),
+        Calculation::Product => arith::mul(old, a),
+        Calculation::OneMore => arith::inc(old),
+        Calculation::OneLess => arith::dec(old),
+    }
+}
+
+fn calculate(c: Calculation, t: Taken, cells: &mut Cells, vars: &mut [u32; 64]) -> u8
+    requires { ⌜ Destined t × CellsFull (now cells) ⌝ }
+    ensures { λ q.
+        ⌜ ((n : ℕ) → Sets q (answers t (λ o. rule (opOf c) o n))
+        (now (cells .entry)) (now (cells .exit)) (now (vars .entry)) (now (vars .exit))) ⌝ }
+{
+    match t {
+        Taken::Refused(n) => n,
+        Taken::Got(o, next) => {
+            let v = calculated(c, old(o, &*vars), o.a);
+            put(o, next, v, cells, vars)
+        }
+    }
+}
+
 pub fn add(t: Taken, cells: &mut Cells, vars: &mut [u32; 64]) -> u8
-    requires { ⌜ Named t × Cells (now cells) ⌝ }
+    requires { ⌜ Destined t × CellsFull (now cells) ⌝ }
     ensures { λ q.
         ⌜ ((n : ℕ) → Sets q (answers t (λ o. rule Op.Add o n))
         (now (cells .entry)) (now (cells .exit)) (now (vars .entry)) (now (vars .exit))) ⌝ }
 {
-    match t {
-        Taken::Refused(n) => n,
-        Taken::Got(o, next) => {
-            let v = arith::add(old(o, &*vars), o.a);
-            put(o, next, v, cells, vars)
-        }
-    }
+    calculate(Calculation::Sum, t, cells, vars)
 }
 
 pub fn and(t: Taken, cells: &mut Cells, vars: &mut [u32; 64]) -> u8
-    requires { ⌜ Named t × Cells (now cells) ⌝ }
+    requires { ⌜ Destined t × CellsFull (now cells) ⌝ }
     ensures { λ q.
         ⌜ ((n : ℕ) → Sets q (answers t (λ o. rule Op.And o n))
         (now (cells .entry)) (now (cells .exit)) (now (vars .entry)) (now (vars .exit))) ⌝ }
 {
-    match t {
-        Taken::Refused(n) => n,
-        Taken::Got(o, next) => {
-            let v = arith::and(old(o, &*vars), o.a);
-            put(o, next, v, cells, vars)
-        }
-    }
+    calculate(Calculation::And, t, cells, vars)
 }
 
 pub fn or(t: Taken, cells: &mut Cells, vars: &mut [u32; 64]) -> u8
-    requires { ⌜ Named t × Cells (now cells) ⌝ }
+    requires { ⌜ Destined t × CellsFull (now cells) ⌝ }
     ensures { λ q.
         ⌜ ((n : ℕ) → Sets q (answers t (λ o. rule Op.Or o n))
         (now (cells .entry)) (now (cells .exit)) (now (vars .entry)) (now (vars .exit))) ⌝ }
 {
-    match t {
-        Taken::Refused(n) => n,
-        Taken::Got(o, next) => {
-            let v = arith::or(old(o, &*vars), o.a);
-            put(o, next, v, cells, vars)
-        }
-    }
+    calculate(Calculation::Or, t, cells, vars)
 }
 
 pub fn multiply(t: Taken, cells: &mut Cells, vars: &mut [u32; 64]) -> u8
-    requires { ⌜ Named t × Cells (now cells) ⌝ }
+    requires { ⌜ Destined t × CellsFull (now cells) ⌝ }
     ensures { λ q.
         ⌜ ((n : ℕ) → Sets q (answers t (λ o. rule Op.Multiply o n))
         (now (cells .entry)) (now (cells .exit)) (now (vars .entry)) (now (vars .exit))) ⌝ }
 {
-    match t {
-        Taken::Refused(n) => n,
-        Taken::Got(o, next) => {
-            let v = arith::mul(old(o, &*vars), o.a);
-            put(o, next, v, cells, vars)
-        }
-    }
+    calculate(Calculation::Product, t, cells, vars)
 }
 
 pub fn increment(t: Taken, cells: &mut Cells, vars: &mut [u32; 64]) -> u8
-    requires { ⌜ Named t × Cells (now cells) ⌝ }
+    requires { ⌜ Destined t × CellsFull (now cells) ⌝ }
     ensures { λ q.
         ⌜ ((n : ℕ) → Sets q (answers t (λ o. rule Op.Increment o n))
         (now (cells .entry)) (now (cells .exit)) (now (vars .entry)) (now (vars .exit))) ⌝ }
 {
-    match t {
-        Taken::Refused(n) => n,
-        Taken::Got(o, next) => {
-            let v = arith::inc(old(o, &*vars));
-            put(o, next, v, cells, vars)
-        }
-    }
+    calculate(Calculation::OneMore, t, cells, vars)
 }
 
 pub fn decrement(t: Taken, cells: &mut Cells, vars: &mut [u32; 64]) -> u8
-    requires { ⌜ Named t × Cells (now cells) ⌝ }
+    requires { ⌜ Destined t × CellsFull (now cells) ⌝ }
     ensures { λ q.
         ⌜ ((n : ℕ) → Sets q (answers t (λ o. rule Op.Decrement o n))
         (now (cells .entry)) (now (cells .exit)) (now (vars .entry)) (now (vars .exit))) ⌝ }
 {
-    match t {
-        Taken::Refused(n) => n,
-        Taken::Got(o, next) => {
-            let v = arith::dec(old(o, &*vars));
-            put(o, next, v, cells, vars)
-        }
-    }
+    calculate(Calculation::OneLess, t, cells, vars)
 }
 
 // A division's answer: into Vd, or 26.
@@ -148,7 +152,7 @@ fn put_unless_zero(
     cells: &mut Cells,
     vars: &mut [u32; 64],
 ) -> u8
-    requires { ⌜ (o .dest .0 < 64) × Cells (now cells) ⌝ }
+    requires { ⌜ (o .dest .0 < 64) × CellsFull (now cells) ⌝ }
     ensures { λ q.
         ⌜ ((v : ℕ) → x ≡ unlessZero (o .a) v
         → Sets q (does (λ e. refuse 26 (eqb (o .a) 0) (gives v o e)) next) (now (cells .entry)) (now (cells .exit)) (now (vars .entry)) (now (vars .exit))) ⌝ }
@@ -160,7 +164,7 @@ fn put_unless_zero(
 }
 
 pub fn divide(t: Taken, cells: &mut Cells, vars: &mut [u32; 64]) -> u8
-    requires { ⌜ Named t × Cells (now cells) ⌝ }
+    requires { ⌜ Destined t × CellsFull (now cells) ⌝ }
     ensures { λ q.
         ⌜ ((n : ℕ) → Sets q (answers t (λ o. rule Op.Divide o n))
         (now (cells .entry)) (now (cells .exit)) (now (vars .entry)) (now (vars .exit))) ⌝ }
@@ -175,7 +179,7 @@ pub fn divide(t: Taken, cells: &mut Cells, vars: &mut [u32; 64]) -> u8
 }
 
 pub fn remainder(t: Taken, cells: &mut Cells, vars: &mut [u32; 64]) -> u8
-    requires { ⌜ Named t × Cells (now cells) ⌝ }
+    requires { ⌜ Destined t × CellsFull (now cells) ⌝ }
     ensures { λ q.
         ⌜ ((n : ℕ) → Sets q (answers t (λ o. rule Op.Remainder o n))
         (now (cells .entry)) (now (cells .exit)) (now (vars .entry)) (now (vars .exit))) ⌝ }
@@ -191,7 +195,7 @@ pub fn remainder(t: Taken, cells: &mut Cells, vars: &mut [u32; 64]) -> u8
 
 // Vd's value is kept first, the other second.
 pub fn compare(t: Taken, cells: &mut Cells, vars: &[u32; 64]) -> u8
-    requires { ⌜ Named t × Cells (now cells) ⌝ }
+    requires { ⌜ Destined t × CellsFull (now cells) ⌝ }
     ensures { λ q.
         ⌜ ((n : ℕ) → Sets q (answers t (λ o. rule Op.Compare o n))
         (now (cells .entry)) (now (cells .exit)) (now (vars .entry)) (now (vars .entry))) ⌝ }
@@ -200,7 +204,7 @@ pub fn compare(t: Taken, cells: &mut Cells, vars: &[u32; 64]) -> u8
         Taken::Refused(n) => n,
         Taken::Got(o, next) => {
             keep_compared(cells, old(o, vars), o.a);
-            go_to(cells, next)
+            finish(cells, next)
         }
     }
 }

@@ -13,11 +13,12 @@ call-to-spec =
     let t = a .before .before .before in
     let s = t .before .before in
     call-28 _ (s .args .next) (s .pre) (t .t .given .1) (a .depth .ensures) (c .if1 .taken))
-    (λ c. search needs) (λ c. search needs) (λ c. search needs) (λ c. search needs) (λ c κs. search needs) (λ c κs. search needs)
+    (λ c κs. search needs) (λ c. search needs) (λ c κs. search needs) (λ c κs. search needs)
     (λ c. let s = c .before .before in call-27 _ (s .args .next) (s .pre) (c .enum-told .given .1))
     (λ c.
-    let i = c .before .before .before .before in
+    let k = c .before .before .before .before in
+    let i = k .before .before in
     let a = i .before in
     let t = a .before .before .before in
     let s = t .before .before in
-    call-at _ (s .args .next) (s .pre) (t .t .given .1) (a .depth .ensures) (i .if1 .left) (c .before .before .set-depth .ensures) (c .go-to .ensures)))
+    call-at _ (s .args .next) (s .pre) (t .t .given .1) (a .depth .ensures) (i .if1 .left) (k .stack-at .ensures) (c .before .before .set-depth .ensures) (c .finish .ensures)))

@@ -11,14 +11,14 @@ condition-of-spec =
     (λ c κs. search needs) (λ c κs. search needs) (λ c κs. search needs) (λ c κs. search needs) (λ c κs. search needs) (λ c κs. search needs)
     (λ c κs. search needs) (λ c κs. search needs) (λ c κs. search needs) (λ c κs. search needs) (λ c κs. search needs) (λ c κs. search needs)
     (λ c. always _ _ (c .match .keys1))
-    (λ c. c .told .ensures ∙ less _ _ (c .before .less .ensures) (c .before .before .match .keys2))
-    (λ c. c .told2 .ensures ∙ not-less _ _ (c .before .less2 .ensures) (c .before .before .match .keys3))
-    (λ c. c .told3 .ensures ∙ not-greater _ _ (c .before .less3 .ensures) (c .before .before .match .keys4))
-    (λ c. c .told4 .ensures ∙ greater _ _ (c .before .less4 .ensures) (c .before .before .match .keys5))
+    (λ c. c .meeting .ensures ∙ less _ _ (c .before .less .ensures) (c .before .before .match .keys2))
+    (λ c. c .meeting2 .ensures ∙ not-less _ _ (c .before .less2 .ensures) (c .before .before .match .keys3))
+    (λ c. c .meeting3 .ensures ∙ not-greater _ _ (c .before .less3 .ensures) (c .before .before .match .keys4))
+    (λ c. c .meeting4 .ensures ∙ greater _ _ (c .before .less4 .ensures) (c .before .before .match .keys5))
     (λ c.
     let s = c .before .before .before .fits in
-    c .told5 .ensures ∙ equal _ _ (c .before .equal .ensures) (s .first .fits) (s .second .fits) (c .before .before .match .keys6))
+    c .meeting5 .ensures ∙ equal _ _ (c .before .equal .ensures) (s .first .fits) (s .second .fits) (c .before .before .match .keys6))
     (λ c.
     let s = c .before .before .before .fits in
-    c .told6 .ensures ∙ not-equal _ _ (c .before .equal2 .ensures) (s .first .fits) (s .second .fits) (c .before .before .match .keys7))
+    c .meeting6 .ensures ∙ not-equal _ _ (c .before .equal2 .ensures) (s .first .fits) (s .second .fits) (c .before .before .match .keys7))
     (λ c. not-allowed _ _ _ (c .match .rest)))

@@ -1,9 +1,9 @@
 -- `end`: the state's byte is ended's.
 use mathlib.Core.Path.{refl}
 use borrow.Author.Needs.{needs}
-use Rattle.act.proofs.Acting.{turns}
-use Rattle.act.proofs.Handing.{passed-turns, got-turns, settled, then}
-use Rattle.act.proofs.HeldLaws.{ended}
+use Rattle.act.proofs.Acting.{paints-nothing}
+use Rattle.act.proofs.Handing.{passed-goes, got-goes, settled, then}
+use Rattle.act.proofs.LentLaws.{ended}
 use Rattle.act.proofs.flow.end.Statement.{statement}
 use Rattle.act.proofs.flow.end.Tie as tie
 
@@ -11,9 +11,9 @@ pub end-spec : {M : Type 1} → statement M
 end-spec =
     tie.close (tie.spec
     (λ c. search needs) (λ c. search needs) (λ c κs. search needs) (λ c κs. search needs)
-    (λ c n. passed-turns _ (c .before .t .given .1) (c .before .before .before .pre))
+    (λ c n. passed-goes _ (c .before .t .given .1) (c .before .before .before .pre))
     (λ c n.
-    let g = c .go-to .ensures in
+    let g = c .finish .ensures in
     let r = then (ended (c .before .before .set-state .ensures)) (g .1) in
-    got-turns _ (c .before .before .before .before .before .t2 .given .1)
-    (record { cells = r .full; tells = λ b ps vs st s. turns _ _ _ s refl refl (settled s (g .0) (r .shows b ps vs st)) })))
+    got-goes _ (c .before .before .before .before .before .t2 .given .1)
+    (record { cells = r .full; tells = λ b ps vs st s. paints-nothing _ _ _ s refl refl (settled s (g .0) (r .shows b ps vs st)) })))

@@ -1,7 +1,7 @@
 -- `jump_by`: the target is that of `word_from`.
 use borrow.Author.Needs.{needs}
 use Rattle.rules.specs.Opcodes.{relative}
-use Rattle.act.proofs.Handing.{passed-turns, got-turns}
+use Rattle.act.proofs.Handing.{passed-goes, got-goes}
 use Rattle.act.proofs.JumpLaws.{jump-aimed}
 use Rattle.act.proofs.flow.jump_by.Statement.{statement}
 use Rattle.act.proofs.flow.jump_by.Tie as tie
@@ -10,10 +10,10 @@ pub jump-by-spec : {M : Type 1} → statement M
 jump-by-spec =
     tie.close (tie.spec
     (λ c. search needs) (λ c. search needs) (λ c κs. search needs) (λ c κs. search needs)
-    (λ c. passed-turns _ (c .before .t .given .1) (c .before .before .before .pre))
+    (λ c. passed-goes _ (c .before .t .given .1) (c .before .before .before .pre))
     (λ c.
     let a = c .before .before in
     let t = a .before .before in
     let o = t .t2 .given .0 .0 in
-    got-turns _ (t .t2 .given .1)
+    got-goes _ (t .t2 .given .1)
     (jump-aimed _ _ (λ e. relative (o .b) e (t .before .before .args .count)) (λ e. a .word-from .ensures) (c .jump-to .ensures))))

@@ -19,7 +19,7 @@ jump-to-spec =
     let a = h .before .before in
     let f = a .before .before .before in
     jump-no _ (f .before .before .args .t) _ _ (f .first .ensures) (a .before .second .ensures) (a .condition-of .ensures) (h .enum-told2 .given .1)
-    (c .go-to .ensures))
+    (c .finish .ensures))
     (λ c.
     let h = c .before .before in
     let a = h .before .before in
@@ -33,4 +33,4 @@ jump-to-spec =
     let a = h .before .before in
     let f = a .before .before .before in
     jump-at _ _ (f .before .before .args .next) _ (f .first .ensures) (a .before .second .ensures) (a .condition-of .ensures) (h .enum-told3 .given .1)
-    (t .t .given .1) (c .go-to2 .ensures)))
+    (t .t .given .1) (c .finish2 .ensures)))

@@ -9,12 +9,12 @@ use Rattle.act.proofs.painting.clear.Tie as tie
 pub clear-spec : {M : Type 1} → statement M
 clear-spec =
     tie.close (tie.spec
-    (λ c. search needs) (λ c. search needs) (λ c. search needs)
-    (λ c κs. search needs) (λ c κs. search needs)
+    (λ c. search needs) (λ c. search needs)
+    (λ c κs. search needs) (λ c κs. search needs) (λ c κs. search needs)
     (λ c n. let pre = c .before .before .before .pre in passed-paints _ (c .before .t .given .1) (pre .0) (pre .1))
     (λ c n.
     let m = c .before .before in
-    let g = c .go-painting .ensures in
-    let h = m .hold-all .ensures in
+    let g = c .finish-painting .ensures in
+    let h = rw (m .before .low8 .ensures) at (m .hold-all .ensures) in
     got-paints _ (m .before .before .before .before .t2 .given .1)
     (record { cells = g .1 .full; brush = (h .full, h .near); tells = λ b ps vs st. drawn _ _ _ _ refl (g .0) (g .1 .shows b ps vs st) refl h })))

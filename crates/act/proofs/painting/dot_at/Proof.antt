@@ -25,7 +25,7 @@ dot-at-spec =
     let m = c .before .before in
     let w = m .before .before .before in
     let p = told-at _ _ (w .before .before .point-of .ensures) (w .p .given .1) in
-    let g = c .go-painting .ensures in
+    let g = c .finish-painting .ensures in
     let h = m .hold-dot .ensures in
     record {
       cells = g .1 .full;

@@ -24,7 +24,7 @@ draw-to-spec =
     let d = m .before .before in
     let k = d .before in
     let here = k .before .before .before in
-    let g = c .go-painting .ensures in
+    let g = c .finish-painting .ensures in
     let h = d .hold-line .ensures in
     record {
       cells = g .1 .full;

@@ -1,7 +1,6 @@
 -- `line`: a type other than 0 is 24, an end outside 25.
-use mathlib.Core.Path.{refl}
+use mathlib.Core.Path.{refl, sym, _∙_}
 use borrow.Author.Needs.{needs}
-use borrow.Author.Tests.{lt-ltb, le-ltb}
 use Rattle.act.proofs.Acting.{stays, drawn}
 use Rattle.act.proofs.Handing.{passed-paints, got-paints}
 use Rattle.act.proofs.PointLaws.{near, near-as, told-outside, told-at}
@@ -11,12 +10,12 @@ use Rattle.act.proofs.painting.line.Tie as tie
 pub line-spec : {M : Type 1} → statement M
 line-spec =
     tie.close (tie.spec
-    (λ c. search needs) (λ c. search needs)
+    (λ c. search needs) (λ c. search needs) (λ c κs. search needs)
     (λ c n.
     let t = c .before .before .before in
     let pre = t .before .before .pre in
     got-paints _ (t .t2 .given .1)
-    (record { cells = pre .0; brush = pre .1; tells = λ b ps vs st. stays _ _ _ _ {n = 24} (rw (lt-ltb _ _ (c .if1 .taken))) refl }))
+    (record { cells = pre .0; brush = pre .1; tells = λ b ps vs st. stays _ _ _ _ {n = 24} (rw (sym (c .before .other-type .ensures) ∙ c .if1 .taken)) refl }))
     (λ c κs. search needs) (λ c. search needs) (λ c. search needs)
     (λ c n.
     let first = c .before .before in
@@ -24,7 +23,7 @@ line-spec =
     let pre = t .before .before .pre in
     let out = told-outside _ _ (first .point-of .ensures) (c .enum-told .given .1) in
     got-paints _ (t .t2 .given .1)
-    (record { cells = pre .0; brush = pre .1; tells = λ b ps vs st. stays _ _ _ _ {n = 25} (rw (le-ltb _ _ (first .before .if1 .left), out)) refl }))
+    (record { cells = pre .0; brush = pre .1; tells = λ b ps vs st. stays _ _ _ _ {n = 25} (rw (sym (first .before .before .other-type .ensures) ∙ first .before .if1 .left, out)) refl }))
     (λ c κs. search needs) (λ c. search needs) (λ c. search needs)
     (λ c n.
     let second = c .before .before in
@@ -34,7 +33,7 @@ line-spec =
     let p = told-at _ _ (first .point-of .ensures) (second .before .before .p .given .1) in
     let out = told-outside _ _ (second .point-of2 .ensures) (c .enum-told2 .given .1) in
     got-paints _ (t .t2 .given .1)
-    (record { cells = pre .0; brush = pre .1; tells = λ b ps vs st. stays _ _ _ _ {n = 25} (rw (le-ltb _ _ (first .before .if1 .left), p .0, out)) refl }))
+    (record { cells = pre .0; brush = pre .1; tells = λ b ps vs st. stays _ _ _ _ {n = 25} (rw (sym (first .before .before .other-type .ensures) ∙ first .before .if1 .left, p .0, out)) refl }))
     (λ c κs. search needs)
     (λ c κs.
     let w = c .before .before .before .before in
@@ -56,13 +55,13 @@ line-spec =
     let t = first .before .before .before .before in
     let p = told-at _ _ (first .point-of .ensures) (second .before .before .p .given .1) in
     let q = told-at _ _ (second .point-of2 .ensures) (w .q .given .1) in
-    let g = c .go-painting .ensures in
+    let g = c .finish-painting .ensures in
     let h = m .hold-line .ensures in
     got-paints _ (t .t2 .given .1)
     (record {
       cells = g .1 .full;
       brush = (h .full, h .near);
       tells = λ b ps vs st.
-          drawn _ _ _ _ (rw (le-ltb _ _ (first .before .if1 .left), p .0, q .0)) (g .0) (g .1 .shows b ps vs st) refl
+          drawn _ _ _ _ (rw (sym (first .before .before .other-type .ensures) ∙ first .before .if1 .left, p .0, q .0)) (g .0) (g .1 .shows b ps vs st) refl
           (rw (p .1, q .1, k .colour .ensures) at h);
     })))

@@ -1,7 +1,6 @@
 -- `line_by`: a type other than 0 is 24, an offset or the end outside 25.
-use mathlib.Core.Path.{refl}
+use mathlib.Core.Path.{refl, sym, _∙_}
 use borrow.Author.Needs.{needs}
-use borrow.Author.Tests.{lt-ltb, le-ltb}
 use Rattle.rules.specs.Opcodes.{point, far}
 use Rattle.rules.proofs.Ranges.{neither}
 use Rattle.act.proofs.Acting.{stays, past}
@@ -13,12 +12,12 @@ use Rattle.act.proofs.painting.line_by.Tie as tie
 pub line-by-spec : {M : Type 1} → statement M
 line-by-spec =
     tie.close (tie.spec
-    (λ c. search needs) (λ c. search needs)
+    (λ c. search needs) (λ c. search needs) (λ c κs. search needs)
     (λ c n.
     let t = c .before .before .before in
     let pre = t .before .before .pre in
     got-draws _ (t .t2 .given .1)
-    (record { cells = pre .cells; points = pre .points; brush = pre .brush; tells = λ b vs st. stays _ _ _ _ {n = 24} (rw (lt-ltb _ _ (c .if1 .taken))) refl }))
+    (record { cells = pre .cells; points = pre .points; brush = pre .brush; tells = λ b vs st. stays _ _ _ _ {n = 24} (rw (sym (c .before .other-type .ensures) ∙ c .if1 .taken)) refl }))
     (λ c κs. search needs) (λ c κs. search needs) (λ c. search needs) (λ c. search needs)
     (λ c n.
     let at = c .before .before in
@@ -27,7 +26,7 @@ line-by-spec =
     let pre = t .before .before .pre in
     let out = told-outside _ _ (from _ (here .position .ensures) (at .point-by .ensures)) (c .enum-told .given .1) in
     got-draws _ (t .t2 .given .1)
-    (record { cells = pre .cells; points = pre .points; brush = pre .brush; tells = λ b vs st. stays _ _ _ _ {n = 25} (rw (le-ltb _ _ (here .before .before .if1 .left), out)) refl }))
+    (record { cells = pre .cells; points = pre .points; brush = pre .brush; tells = λ b vs st. stays _ _ _ _ {n = 25} (rw (sym (here .before .before .before .other-type .ensures) ∙ here .before .before .if1 .left, out)) refl }))
     (λ c κs.
     let w = c .before .before .before .before in
     let at = w .before .before in
@@ -47,5 +46,5 @@ line-by-spec =
       cells = d .cells;
       points = d .points;
       brush = d .brush;
-      tells = λ b vs st. past _ _ _ _ _ (rw (le-ltb _ _ (here .before .before .if1 .left), q .0)) (rw (q .1)) (d .tells b vs st);
+      tells = λ b vs st. past _ _ _ _ _ (rw (sym (here .before .before .before .other-type .ensures) ∙ here .before .before .if1 .left, q .0)) (rw (q .1)) (d .tells b vs st);
     })))

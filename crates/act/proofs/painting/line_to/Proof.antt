@@ -1,7 +1,6 @@
 -- `line_to`: a type other than 0 is 24, an end outside 25.
-use mathlib.Core.Path.{refl}
+use mathlib.Core.Path.{refl, sym, _∙_}
 use borrow.Author.Needs.{needs}
-use borrow.Author.Tests.{lt-ltb, le-ltb}
 use Rattle.act.proofs.Acting.{stays, past}
 use Rattle.act.proofs.Handing.{passed-draws, got-draws}
 use Rattle.act.proofs.PointLaws.{near, told-outside, told-at}
@@ -11,12 +10,12 @@ use Rattle.act.proofs.painting.line_to.Tie as tie
 pub line-to-spec : {M : Type 1} → statement M
 line-to-spec =
     tie.close (tie.spec
-    (λ c. search needs) (λ c. search needs)
+    (λ c. search needs) (λ c. search needs) (λ c κs. search needs)
     (λ c n.
     let t = c .before .before .before in
     let pre = t .before .before .pre in
     got-draws _ (t .t2 .given .1)
-    (record { cells = pre .cells; points = pre .points; brush = pre .brush; tells = λ b vs st. stays _ _ _ _ {n = 24} (rw (lt-ltb _ _ (c .if1 .taken))) refl }))
+    (record { cells = pre .cells; points = pre .points; brush = pre .brush; tells = λ b vs st. stays _ _ _ _ {n = 24} (rw (sym (c .before .other-type .ensures) ∙ c .if1 .taken)) refl }))
     (λ c κs. search needs) (λ c. search needs) (λ c. search needs)
     (λ c n.
     let at = c .before .before in
@@ -24,7 +23,7 @@ line-to-spec =
     let pre = t .before .before .pre in
     let out = told-outside _ _ (at .point-of .ensures) (c .enum-told .given .1) in
     got-draws _ (t .t2 .given .1)
-    (record { cells = pre .cells; points = pre .points; brush = pre .brush; tells = λ b vs st. stays _ _ _ _ {n = 25} (rw (le-ltb _ _ (at .before .if1 .left), out)) refl }))
+    (record { cells = pre .cells; points = pre .points; brush = pre .brush; tells = λ b vs st. stays _ _ _ _ {n = 25} (rw (sym (at .before .before .other-type .ensures) ∙ at .before .if1 .left, out)) refl }))
     (λ c κs.
     let w = c .before .before .before .before in
     let at = w .before .before in
@@ -41,5 +40,5 @@ line-to-spec =
       cells = d .cells;
       points = d .points;
       brush = d .brush;
-      tells = λ b vs st. past _ _ _ _ _ (rw (le-ltb _ _ (at .before .if1 .left), q .0)) (rw (q .1)) (d .tells b vs st);
+      tells = λ b vs st. past _ _ _ _ _ (rw (sym (at .before .before .other-type .ensures) ∙ at .before .if1 .left, q .0)) (rw (q .1)) (d .tells b vs st);
     })))

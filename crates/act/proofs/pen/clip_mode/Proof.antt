@@ -2,8 +2,8 @@
 use mathlib.Core.Path.{refl}
 use borrow.Author.Needs.{needs}
 use borrow.Author.Tests.{lt-ltb, le-ltb}
-use Rattle.act.proofs.Acting.{stays, turns}
-use Rattle.act.proofs.Handing.{passed-turns, got-turns, settled, then}
+use Rattle.act.proofs.Acting.{stays, paints-nothing}
+use Rattle.act.proofs.Handing.{passed-goes, got-goes, settled, then}
 use Rattle.act.proofs.pen.clip_mode.Statement.{statement}
 use Rattle.act.proofs.pen.clip_mode.Tie as tie
 
@@ -13,16 +13,16 @@ clip-mode-spec =
     (λ c. search needs) (λ c. search needs)
     (λ c n.
     let t = c .before .before .before in
-    got-turns _ (t .t2 .given .1)
+    got-goes _ (t .t2 .given .1)
     (record { cells = t .before .before .pre; tells = λ b ps vs st s. stays _ _ _ s {n = 24} (rw (lt-ltb _ _ (c .if1 .taken))) refl }))
     (λ c κs. search needs) (λ c κs. search needs)
-    (λ c n. passed-turns _ (c .before .t .given .1) (c .before .before .before .pre))
+    (λ c n. passed-goes _ (c .before .t .given .1) (c .before .before .before .pre))
     (λ c n.
     let m = c .before .before in
     let low = m .before .before in
-    let g = then (m .set-mode .ensures) (c .go-to .ensures .1) in
-    got-turns _ (low .before .before .before .t2 .given .1)
+    let g = then (m .set-mode .ensures) (c .finish .ensures .1) in
+    got-goes _ (low .before .before .before .t2 .given .1)
     (record {
       cells = g .full;
-      tells = λ b ps vs st s. turns _ _ _ s (rw (le-ltb _ _ (low .if1 .left))) refl (settled s (c .go-to .ensures .0) (g .shows b ps vs st));
+      tells = λ b ps vs st s. paints-nothing _ _ _ s (rw (le-ltb _ _ (low .if1 .left))) refl (settled s (c .finish .ensures .0) (g .shows b ps vs st));
     })))

@@ -2,7 +2,7 @@
 use mathlib.Core.Path.{refl, _∙_}
 use borrow.Author.Needs.{needs}
 use Rattle.rules.specs.Environment.{windowed}
-use Rattle.act.proofs.Acting.{stays, turns}
+use Rattle.act.proofs.Acting.{stays, paints-nothing}
 use Rattle.act.proofs.Handing.{passed-moves, got-moves, settled, repointed}
 use Rattle.act.proofs.PointLaws.{told-outside, told-at}
 use Rattle.act.proofs.pen.clip_window.Statement.{statement}
@@ -37,12 +37,12 @@ clip-window-spec =
     let first = second .before .before .before .before in
     let p = told-at _ _ (first .point-of .ensures) (second .before .before .p .given .1) in
     let q = told-at _ _ (second .point-of2 .ensures) (d .q .given .1) in
-    let g = c .go-to .ensures in
+    let g = c .finish .ensures in
     got-moves _ (first .before .before .t2 .given .1)
     (record {
       cells = g .1 .full;
       points = m .set-window .ensures .full;
       tells = λ b vs st s.
-          turns _ _ _ s (rw (p .0, q .0)) refl
+          paints-nothing _ _ _ s (rw (p .0, q .0)) refl
           (settled s (g .0) (repointed windowed (w .window .ensures ∙ rw (p .1, q .1)) (m .set-window .ensures) (g .1) b vs st));
     })))

@@ -2,7 +2,7 @@
 use mathlib.Core.Path.{refl}
 use borrow.Author.Needs.{needs}
 use Rattle.rules.specs.Environment.{moved}
-use Rattle.act.proofs.Acting.{stays, turns}
+use Rattle.act.proofs.Acting.{stays, paints-nothing}
 use Rattle.act.proofs.Handing.{passed-moves, got-moves, settled, repointed}
 use Rattle.act.proofs.PointLaws.{from, told-outside, told-at}
 use Rattle.act.proofs.pen.move_by.Statement.{statement}
@@ -25,10 +25,10 @@ move-by-spec =
     let w = m .before .before .before in
     let at = w .before .before in
     let p = told-at _ _ (from _ (at .before .position .ensures) (at .point-by .ensures)) (w .p .given .1) in
-    let g = c .go-to .ensures in
+    let g = c .finish .ensures in
     got-moves _ (at .before .before .before .before .t2 .given .1)
     (record {
       cells = g .1 .full;
       points = m .set-position .ensures .full;
-      tells = λ b vs st s. turns _ _ _ s (rw (p .0)) refl (settled s (g .0) (repointed moved (p .1) (m .set-position .ensures) (g .1) b vs st));
+      tells = λ b vs st s. paints-nothing _ _ _ s (rw (p .0)) refl (settled s (g .0) (repointed moved (p .1) (m .set-position .ensures) (g .1) b vs st));
     })))

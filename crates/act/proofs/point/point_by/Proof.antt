@@ -18,5 +18,5 @@ point-by-spec =
     let by = at .before .struct-told2 .given in
     let is = told-at _ _ (q .before .before .before .point-of .ensures) (q .before .d .given .1) in
     c .paired .ensures
-    ∙ rw (at .moved .ensures, c .before .moved2 .ensures)
+    ∙ rw (at .shifted .ensures, c .before .shifted2 .ensures)
     (sum-judged (q .before .before .before .before .args .from) _ _ is (from .0 .1) (from .1 .0 .1) (by .0 .1) (by .1 .0 .1))))

@@ -1,6 +1,6 @@
 -- `keep_compared`: the values compared are cells 1 and 2.
 use borrow.Author.Needs.{needs}
-use Rattle.act.proofs.HeldLaws.{compared-set}
+use Rattle.act.proofs.LentLaws.{compared-set}
 use Rattle.act.proofs.registers.keep_compared.Statement.{statement}
 use Rattle.act.proofs.registers.keep_compared.Tie as tie
 

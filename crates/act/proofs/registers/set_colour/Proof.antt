@@ -1,6 +1,6 @@
 -- `set_colour`: the colour is cell 5.
 use borrow.Author.Needs.{needs}
-use Rattle.act.proofs.HeldLaws.{colour-set}
+use Rattle.act.proofs.LentLaws.{colour-set}
 use Rattle.act.proofs.registers.set_colour.Statement.{statement}
 use Rattle.act.proofs.registers.set_colour.Tie as tie
 

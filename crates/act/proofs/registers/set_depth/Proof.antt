@@ -1,6 +1,6 @@
 -- `set_depth`: the depth is cell 3.
 use borrow.Author.Needs.{needs}
-use Rattle.act.proofs.HeldLaws.{depth-set}
+use Rattle.act.proofs.LentLaws.{depth-set}
 use Rattle.act.proofs.registers.set_depth.Statement.{statement}
 use Rattle.act.proofs.registers.set_depth.Tie as tie
 

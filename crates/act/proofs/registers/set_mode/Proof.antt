@@ -1,6 +1,6 @@
 -- `set_mode`: the clip mode is cell 4.
 use borrow.Author.Needs.{needs}
-use Rattle.act.proofs.HeldLaws.{mode-set}
+use Rattle.act.proofs.LentLaws.{mode-set}
 use Rattle.act.proofs.registers.set_mode.Statement.{statement}
 use Rattle.act.proofs.registers.set_mode.Tie as tie
 

@@ -1,7 +1,7 @@
 -- `set_position`: the position is points 0 and 1.
 use borrow.Author.Needs.{needs}
 use mir.Facts.{toZ-ofZ}
-use Rattle.act.proofs.HeldLaws.{position-set}
+use Rattle.act.proofs.LentLaws.{position-set}
 use Rattle.act.proofs.registers.set_position.Statement.{statement}
 use Rattle.act.proofs.registers.set_position.Tie as tie
 

@@ -1,6 +1,6 @@
 -- `set_state`: the state is cell 6.
 use borrow.Author.Needs.{needs}
-use Rattle.act.proofs.HeldLaws.{state-set}
+use Rattle.act.proofs.LentLaws.{state-set}
 use Rattle.act.proofs.registers.set_state.Statement.{statement}
 use Rattle.act.proofs.registers.set_state.Tie as tie
 

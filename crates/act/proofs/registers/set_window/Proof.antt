@@ -1,7 +1,7 @@
 -- `set_window`: the window is points 2 to 5.
 use borrow.Author.Needs.{needs}
 use mir.Facts.{toZ-ofZ}
-use Rattle.act.proofs.HeldLaws.{window-set}
+use Rattle.act.proofs.LentLaws.{window-set}
 use Rattle.act.proofs.registers.set_window.Statement.{statement}
 use Rattle.act.proofs.registers.set_window.Tie as tie
 

@@ -1,7 +1,7 @@
 -- `divide`: the quotient is put, unless the divisor is zero.
 use borrow.Author.Needs.{needs}
 use Rattle.numbers.specs.Number.{quotient32}
-use Rattle.act.proofs.Handing.{passed-sets, got-sets, named}
+use Rattle.act.proofs.Handing.{passed-sets, got-sets, destined}
 use Rattle.act.proofs.ValueLaws.{divided}
 use Rattle.act.proofs.values.divide.Statement.{statement}
 use Rattle.act.proofs.values.divide.Tie as tie
@@ -10,12 +10,12 @@ pub divide-spec : {M : Type 1} → statement M
 divide-spec =
     tie.close (tie.spec
     (λ c. search needs) (λ c. search needs)
-    (λ c κs. let t = c .before .before in named (t .t2 .given .1) (t .before .before .pre .0))
+    (λ c κs. let t = c .before .before in destined (t .t2 .given .1) (t .before .before .pre .0))
     (λ c κs. search needs)
     (λ c κs.
     let t = c .before .before .before .before .before .before in
     let p = t .before .before .pre in
-    (named (t .t2 .given .1) (p .0), p .1))
+    (destined (t .t2 .given .1) (p .0), p .1))
     (λ c n. passed-sets _ (c .before .t .given .1) (c .before .before .before .pre .1))
     (λ c n.
     let a = c .before .before .before in

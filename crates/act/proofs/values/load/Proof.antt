@@ -1,6 +1,6 @@
 -- `load`: the operand is put.
 use borrow.Author.Needs.{needs}
-use Rattle.act.proofs.Handing.{passed-sets, got-sets, named}
+use Rattle.act.proofs.Handing.{passed-sets, got-sets, destined}
 use Rattle.act.proofs.values.load.Statement.{statement}
 use Rattle.act.proofs.values.load.Tie as tie
 
@@ -11,6 +11,6 @@ load-spec =
     (λ c κs.
     let t = c .before .before .before in
     let p = t .before .before .pre in
-    (named (t .t2 .given .1) (p .0), p .1))
+    (destined (t .t2 .given .1) (p .0), p .1))
     (λ c n. passed-sets _ (c .before .t .given .1) (c .before .before .before .pre .1))
     (λ c n. got-sets _ (c .before .before .before .before .t2 .given .1) (c .put .ensures)))

@@ -8,15 +8,15 @@ use Rattle.act.specs.declared.point.Point.{Point}
 use Rattle.act.specs.declared.point.Point.the-variants.{At, Outside}
 
 -- a point, unless something is outside
-unfoldable pub unless : Bool → Dot → Point
-unless out p = cond out Outside (At p)
+unfoldable pub pointUnless : Bool → Dot → Point
+pointUnless out p = cond out Outside (At p)
 
 abbrev pub pointOf : Dot → Point
-pointOf p = unless (far p) p
+pointOf p = pointUnless (far p) p
 
 -- the point at the offsets d from p
 abbrev pub pointBy : Dot → Dot → Point
-pointBy p d = unless (far d || far (shifted p d)) (shifted p d)
+pointBy p d = pointUnless (far d || far (shifted p d)) (shifted p d)
 
 -- two coordinates that were judged
 abbrev pub paired : Coordinate → Coordinate → Point

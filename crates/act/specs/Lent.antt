@@ -1,20 +1,22 @@
--- The registers as the program lends them: numbers in cells, coordinates in points.
-use Prim.Native.Nat.{ℕ, _%_}
+-- The registers and the stack as the program lends them: numbers in cells, coordinates in points, the numbers of the stacked indices in an array.
+use Prim.Native.Nat.{ℕ}
 use mathlib.Core.Path.{_≡_}
-use mathlib.Core.List.{List, [], _∷_}
+use mathlib.Core.List.{List, [], _∷_, map}
 use lib.ListN.{length, getD}
 use lib.IntN.{ℤ, pos}
+use Rattle.numbers.specs.declared.place.WordIndex.{WordIndex}
+use Rattle.numbers.specs.Number.{low8}
 use Rattle.raster.specs.declared.frame.Bounds.{Bounds}
 use Rattle.rules.specs.declared.environment.Registers.{Registers}
 use Rattle.rules.specs.Environment.{Env, view, stacked, firsts}
 use Rattle.rules.specs.Operands.{at}
 
 -- as many as there are
-abbrev pub Cells : List ℕ → Type 0
-Cells cs = length cs ≡ 7
+abbrev pub CellsFull : List ℕ → Type 0
+CellsFull cs = length cs ≡ 7
 
-abbrev pub Points : List ℤ → Type 0
-Points ps = length ps ≡ 6
+abbrev pub PointsFull : List ℤ → Type 0
+PointsFull ps = length ps ≡ 6
 
 -- coordinate i
 abbrev pub coordinate : List ℤ → ℕ → ℤ
@@ -31,8 +33,8 @@ registers cs ps =
       second = at cs 2;
       counter = record { 0 = at cs 0 };
       depth = at cs 3;
-      colour = at cs 5 % 256;
-      state = at cs 6 % 256;
+      colour = low8 (at cs 5);
+      state = low8 (at cs 6);
     }
 
 -- what is read of cells alone, and of points alone
@@ -47,22 +49,29 @@ abbrev pub points : Registers → List ℤ
 points r = r .position .x ∷ r .position .y ∷ r .window .x0 ∷ r .window .y0 ∷ r .window .x1 ∷ r .window .y1 ∷ []
 
 pub record Spread (r : Registers) (cs : List ℕ) : Type 0 where
-  pub full : Cells cs
+  pub full : CellsFull cs
   pub reads : registers cs (points r) ≡ r
+
+-- the stack's numbers, and the indices that they are
+abbrev pub numbers : List WordIndex → List ℕ
+numbers st = map (λ (i : WordIndex). i .0) st
+
+abbrev pub indexed : List ℕ → List WordIndex
+indexed st = map (λ (n : ℕ). record { 0 = n }) st
 
 -- the environment that all of it stands for
 abbrev pub look : Bounds → List ℕ → List ℤ → List ℕ → List ℕ → Env
-look b cs ps vs st = view b (registers cs ps) vs st
+look b cs ps vs st = view b (registers cs ps) vs (indexed st)
 
 -- cells, or points, that show the environment with one thing changed, whatever else it holds
 pub record Recelled (f : Env → Env) (cs cs' : List ℕ) : Type 0 where
-  pub full : Cells cs'
+  pub full : CellsFull cs'
   pub shows : (b : Bounds) (ps : List ℤ) (vs st : List ℕ) → look b cs' ps vs st ≡ f (look b cs ps vs st)
 
 pub record Repointed (f : Env → Env) (ps ps' : List ℤ) : Type 0 where
-  pub full : Points ps'
+  pub full : PointsFull ps'
   pub shows : (b : Bounds) (cs vs st : List ℕ) → look b cs ps' vs st ≡ f (look b cs ps vs st)
 
 -- cells with the depth n, so that the first n of the stack are stacked
 abbrev pub Deepened : ℕ → List ℕ → List ℕ → Type 0
-Deepened n cs cs' = Cells cs' × ((b : Bounds) (ps : List ℤ) (vs st : List ℕ) → look b cs' ps vs st ≡ stacked (firsts n st) (look b cs ps vs st))
+Deepened n cs cs' = CellsFull cs' × ((b : Bounds) (ps : List ℤ) (vs st : List ℕ) → look b cs' ps vs st ≡ stacked (firsts n (indexed st)) (look b cs ps vs st))

@@ -1,0 +1,84 @@
+-- Each register stands at its place: a cell or a point that is set changes one thing of the environment. And what is stacked is an index.
+use Prim.Native.Nat.{ℕ, zero, suc, _<_}
+use mathlib.Core.Path.{_≡_, refl, ap}
+use mathlib.Core.List.{List, [], _∷_}
+use lib.ListN.{length, set, getD}
+use lib.IntN.{ℤ, pos}
+use Rattle.player.specs.declared.State.the-variants.{Ended}
+use Rattle.numbers.specs.declared.place.WordIndex.{WordIndex}
+use Rattle.raster.specs.declared.dots.Dot.{Dot}
+use Rattle.raster.specs.declared.frame.Window.{Window}
+use Rattle.raster.proofs.Spelt.{one-by-one}
+use Rattle.raster.proofs.Brushes.{byte}
+use Rattle.rules.specs.Environment.{start, goto, compared, clipped, coloured, stated, moved, windowed, stateOf}
+use Rattle.act.specs.Lent.{numbers, indexed, CellsFull, PointsFull, Recelled, Repointed, Deepened}
+
+module _ (cs : List ℕ) (l : CellsFull cs) where
+  pub counter-set : (i : WordIndex) → Recelled (goto i) cs (set cs 0 (i .0))
+  counter-set i = one-by-one 0 (λ cs. Recelled (goto i) cs (set cs 0 (i .0))) cs l (record { full = refl; shows = λ b ps vs st. refl })
+
+  pub compared-set : (x y : ℕ) → Recelled (compared x y) cs (set (set cs 1 x) 2 y)
+  compared-set x y =
+      one-by-one 0 (λ cs. Recelled (compared x y) cs (set (set cs 1 x) 2 y)) cs l (record { full = refl; shows = λ b ps vs st. refl })
+
+  pub depth-set : (n : ℕ) → Deepened n cs (set cs 3 n)
+  depth-set n = one-by-one 0 (λ cs. Deepened n cs (set cs 3 n)) cs l (refl, λ b ps vs st. refl)
+
+  pub mode-set : (n : ℕ) → Recelled (clipped n) cs (set cs 4 n)
+  mode-set n = one-by-one 0 (λ cs. Recelled (clipped n) cs (set cs 4 n)) cs l (record { full = refl; shows = λ b ps vs st. refl })
+
+  pub colour-set : (n : ℕ) → n < 256 → Recelled (coloured n) cs (set cs 5 n)
+  colour-set n h =
+      one-by-one 0 (λ cs. Recelled (coloured n) cs (set cs 5 n)) cs l (record { full = refl; shows = λ b ps vs st. rw (byte n h) })
+
+  pub state-set : (n : ℕ) → n < 256 → Recelled (stated (stateOf n)) cs (set cs 6 n)
+  state-set n h =
+      one-by-one 0 (λ cs. Recelled (stated (stateOf n)) cs (set cs 6 n)) cs l (record { full = refl; shows = λ b ps vs st. rw (byte n h) })
+
+-- 1 is ended's byte
+pub ended : {cs cs' : List ℕ} → Recelled (stated (stateOf 1)) cs cs' → Recelled (stated Ended) cs cs'
+unfolding stateOf
+ended p = p
+
+-- what is stored, x, is what was given
+module _ (ps : List ℤ) (l : PointsFull ps) where
+  pub position-set : (p : Dot) {x y : ℤ} → x ≡ p .x → y ≡ p .y → Repointed (moved p) ps (set (set ps 0 x) 1 y)
+  position-set p ex ey =
+      rw (ex, ey)
+      (one-by-one (pos 0) (λ ps. Repointed (moved p) ps (set (set ps 0 (p .x)) 1 (p .y))) ps l (record { full = refl; shows = λ b cs vs st. refl }))
+
+  pub window-set : (w : Window) {x0 y0 x1 y1 : ℤ} → x0 ≡ w .x0 → y0 ≡ w .y0 → x1 ≡ w .x1 → y1 ≡ w .y1
+      → Repointed (windowed w) ps (set (set (set (set ps 2 x0) 3 y0) 4 x1) 5 y1)
+  window-set w ex0 ey0 ex1 ey1 =
+      rw (ex0, ey0, ex1, ey1)
+      (one-by-one (pos 0) (λ ps. Repointed (windowed w) ps (set (set (set (set ps 2 (w .x0)) 3 (w .y0)) 4 (w .x1)) 5 (w .y1)))
+      ps l (record { full = refl; shows = λ b cs vs st. refl }))
+
+-- ---- sixteen, read one by one
+abbrev reads : {A : Type 0} → A → ℕ → ℕ → List A → List A
+reads d k zero xs = []
+reads d k (suc n) xs = getD xs k d ∷ reads d (suc k) n xs
+
+all-read : {A : Type 0} (d : A) (xs : List A) → length xs ≡ 16 → reads d 0 16 xs ≡ xs
+all-read d xs h = one-by-one d (λ xs. reads d 0 16 xs ≡ xs) xs h refl
+
+pub all-numbers : (st : List WordIndex) → length st ≡ 16 → numbers (reads start 0 16 st) ≡ numbers st
+all-numbers st h = ap numbers (all-read start st h)
+
+pub all-indexed : (st : List ℕ) → length st ≡ 16 → indexed (reads 0 0 16 st) ≡ indexed st
+all-indexed st h = ap indexed (all-read 0 st h)
+
+-- ---- the stack: an index that is stored, that is read, and how many there are
+pub indexed-set : (st : List ℕ) (k : ℕ) (i : WordIndex) → indexed (set st k (i .0)) ≡ set (indexed st) k i
+indexed-set [] k i = refl
+indexed-set (x ∷ st) zero i = refl
+indexed-set (x ∷ st) (suc k) i = ap (λ (t : List WordIndex). record { 0 = x } ∷ t) (indexed-set st k i)
+
+pub indexed-at : (st : List ℕ) (k : ℕ) → getD (indexed st) k start ≡ record { 0 = getD st k 0 }
+indexed-at [] k = refl
+indexed-at (x ∷ st) zero = refl
+indexed-at (x ∷ st) (suc k) = indexed-at st k
+
+pub indexed-length : (st : List ℕ) → length (indexed st) ≡ length st
+indexed-length [] = refl
+indexed-length (x ∷ st) = ap suc (indexed-length st)
