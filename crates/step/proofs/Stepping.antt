@@ -12,26 +12,23 @@ use Rattle.numbers.specs.declared.place.WordIndex.{WordIndex}
 use Rattle.raster.specs.declared.frame.Bounds.{Bounds}
 use Rattle.player.specs.Player.{verdict, Outcome, refused}
 use Rattle.player.specs.Shown.{shown}
-use Rattle.rules.specs.declared.opcode.Op.{Op}
 use Rattle.rules.specs.declared.opcode.Operands.{Operands}
-use Rattle.rules.specs.declared.opcode.Source.{Source}
-use Rattle.rules.specs.declared.opcode.Form.the-variants.{Unknown, Known}
 use Rattle.rules.specs.Table.{formOf}
-use Rattle.rules.specs.Operands.{at, pieces, sizeOf, highest, operands}
+use Rattle.rules.specs.Meaning.{Meaning, Unknown, Known, meaning}
+use Rattle.rules.specs.Operands.{at, sizeOf, highest, operands}
 use Rattle.rules.specs.Environment.{Env, firsts}
 use Rattle.rules.specs.Opcodes.{rule}
 use Rattle.rules.specs.Step.{step}
 use Rattle.rules.proofs.StackLaws.{length-firsts}
 use Rattle.rules.proofs.Ranges.{Fits, parted}
 use Rattle.rules.proofs.DoorLaws.{coord}
-use Rattle.fetch.specs.declared.source.Taken.{Taken}
 use Rattle.fetch.specs.declared.source.Taken.the-variants.{Refused, Got}
 use Rattle.fetch.specs.Stages.{Reaches, takenOf}
 use Rattle.fetch.proofs.Steps as Fetched
-use Rattle.act.specs.Held.{celled, look}
-use Rattle.act.specs.Shown.{Shown, does, answers}
-use Rattle.act.specs.Contracts.{Handed, Drawable, Stacked, Turns, Sets, Stacks, Moves, Paints, Draws}
-use Rattle.step.specs.Steps.{Able, Steps}
+use Rattle.act.specs.Lent.{celled, indexed, look}
+use Rattle.act.specs.Shown.{does, answers}
+use Rattle.act.specs.Contracts.{Drawable, Stacked, Sets, Stacks, Moves, Draws}
+use Rattle.step.specs.Steps.{shows, Able, Steps}
 
 -- a step is taken at pc: all is ready, and the list has a word there
 pub record Here (w cs : List ℕ) (ps : List ℤ) (vs st p : List ℕ) (pc : ℕ) : Type 0 where
@@ -67,9 +64,6 @@ module _ {w cs : List ℕ} {ps : List ℤ} {vs st p : List ℕ} where
     in-range : Fits (h .ready .bounds) some
     in-range = parted some (h .ready .ranges)
 
-    pub handed : Handed cs p
-    handed = (h .ready .cells, h .ready .brush)
-
     pub drawable : Drawable cs ps p
     drawable =
         record {
@@ -83,7 +77,7 @@ module _ {w cs : List ℕ} {ps : List ℤ} {vs st p : List ℕ} where
     stacked =
         record {
           cells = h .ready .cells;
-          deep = omega (arith, leb-true (length (firsts (celled cs .depth) st)) 16 (in-range .2 .depth), length-firsts (celled cs .depth) st);
+          deep = omega (arith, leb-true (length (firsts (celled cs .depth) (indexed st))) 16 (in-range .2 .depth), length-firsts (celled cs .depth) (indexed st));
           full = h .ready .full;
         }
 
@@ -91,47 +85,45 @@ module _ {w cs : List ℕ} {ps : List ℤ} {vs st p : List ℕ} where
     inside : celled cs .counter .0 < length w
     inside = rw (h .counter) at (h .inside)
 
-    pub step-21 : formOf (at w pc) ≡ Unknown → Steps 21 w cs ps vs st cs ps vs st p
-    step-21 k = refuses (h .ready) 19 (λ b. Fetched.step-21 w (look b cs ps vs st) inside (rw (h .counter) at k))
+    module _ {m : Meaning} (k : meaning (formOf (at w pc)) ≡ m) where
+      here-means : meaning (formOf (at w (celled cs .counter .0))) ≡ m
+      here-means = rw (h .counter) at k
 
-    module _ {op : Op} {source : Source} (k : formOf (at w pc) ≡ Known op source) {t : Taken} (g : t ≡ takenOf (pieces source) w pc vs) where
-      -- what an op promises of what was taken is what the rules say of the step
-      told-is : (b : Bounds) (p : List ℕ) → answers t (λ o. rule op o (length w)) (look b cs ps vs st) p ≡ shown (step w (look b cs ps vs st)) (look b cs ps vs st)
-      unfolding answers does takenOf
-      told-is b p =
-          rw (g, h .counter, Fetched.step-taken w (look b cs ps vs st) inside {op = op} {s = source} (rw (h .counter) at k))
-          (go (operands source w (celled cs .counter .0) vs) _ (ltb (length w) (celled cs .counter .0 + sizeOf source)) (ltb 63 (highest (pieces source) w (celled cs .counter .0) 1)))
+      -- what an opcode must show, by what it means, is what the rules say of the step
+      is-step : (b : Bounds) (p : List ℕ) → shows m w pc vs (look b cs ps vs st) p ≡ shown (step w (look b cs ps vs st)) (look b cs ps vs st)
+      unfolding shows answers does takenOf
+      is-step b p = rw (h .counter) (by-meaning m here-means)
         where
-          go : (o : Operands) (next : WordIndex) (x y : Bool) → let t = cond x (Refused 22) (cond y (Refused 23) (Got o next)) in
-              answers t (λ o. rule op o (length w)) (look b cs ps vs st) p ≡ shown (Fetched.resolved w (look b cs ps vs st) inside op t) (look b cs ps vs st)
-          go o next true y = refl
-          go o next false true = refl
-          go o next false false = refl
+          by-meaning : (m : Meaning) → meaning (formOf (at w (celled cs .counter .0))) ≡ m
+              → shows m w (celled cs .counter .0) vs (look b cs ps vs st) p ≡ shown (step w (look b cs ps vs st)) (look b cs ps vs st)
+          by-meaning Unknown k = sym (ap (λ (x : Outcome Env). shown x (look b cs ps vs st)) (Fetched.step-21 w (look b cs ps vs st) inside k))
+          by-meaning (Known op source) k =
+              rw (Fetched.step-taken w (look b cs ps vs st) inside {op = op} {s = source} k)
+              (go (operands source w (celled cs .counter .0) vs) _ (ltb (length w) (celled cs .counter .0 + sizeOf source)) (ltb 63 (highest source w (celled cs .counter .0) 1)))
+            where
+              go : (o : Operands) (next : WordIndex) (x y : Bool) → let t = cond x (Refused 22) (cond y (Refused 23) (Got o next)) in
+                  answers t (λ o. rule op o (length w)) (look b cs ps vs st) p ≡ shown (Fetched.resolved w (look b cs ps vs st) inside op t) (look b cs ps vs st)
+              go o next true y = refl
+              go o next false true = refl
+              go o next false false = refl
 
-      abbrev Told : Env → List ℕ → Shown
-      Told = answers t (λ o. rule op o (length w))
-
+      -- so a group's promise is the step's
       module _ {q : ℕ} {cs' : List ℕ} where
-        pub step-turns : Turns q Told cs cs' → Steps q w cs ps vs st cs' ps vs st p
-        step-turns r =
-            record { cells = r .cells; points = h .ready .points; full = h .ready .full; brush = h .ready .brush; tells = λ b. r .tells b ps vs st p ∙ told-is b p }
-
-        pub step-sets : {vs' : List ℕ} → Sets q Told cs cs' vs vs' → Steps q w cs ps vs st cs' ps vs' st p
+        pub step-sets : {vs' : List ℕ} → Sets q (shows m w pc vs) cs cs' vs vs' → Steps q w cs ps vs st cs' ps vs' st p
         step-sets r =
-            record { cells = r .cells; points = h .ready .points; full = h .ready .full; brush = h .ready .brush; tells = λ b. r .tells b ps st p ∙ told-is b p }
+            record { cells = r .cells; points = h .ready .points; full = h .ready .full; brush = h .ready .brush; tells = λ b. r .tells b ps st p ∙ is-step b p }
 
-        pub step-stacks : {st' : List ℕ} → Stacks q Told cs cs' st st' → Steps q w cs ps vs st cs' ps vs st' p
+        pub step-stacks : {st' : List ℕ} → Stacks q (shows m w pc vs) cs cs' st st' → Steps q w cs ps vs st cs' ps vs st' p
         step-stacks r =
-            record { cells = r .cells; points = h .ready .points; full = r .deep; brush = h .ready .brush; tells = λ b. r .tells b ps vs p ∙ told-is b p }
+            record { cells = r .cells; points = h .ready .points; full = r .deep; brush = h .ready .brush; tells = λ b. r .tells b ps vs p ∙ is-step b p }
 
-        pub step-moves : {ps' : List ℤ} → Moves q Told cs cs' ps ps' → Steps q w cs ps vs st cs' ps' vs st p
+        pub step-moves : {ps' : List ℤ} → Moves q (shows m w pc vs) cs cs' ps ps' → Steps q w cs ps vs st cs' ps' vs st p
         step-moves r =
-            record { cells = r .cells; points = r .points; full = h .ready .full; brush = h .ready .brush; tells = λ b. r .tells b vs st p ∙ told-is b p }
+            record { cells = r .cells; points = r .points; full = h .ready .full; brush = h .ready .brush; tells = λ b. r .tells b vs st p ∙ is-step b p }
 
-        pub step-paints : {p' : List ℕ} → Paints q Told cs cs' p' → Steps q w cs ps vs st cs' ps vs st p'
-        step-paints {p'} r =
-            record { cells = r .cells; points = h .ready .points; full = h .ready .full; brush = r .brush; tells = λ b. r .tells b ps vs st ∙ told-is b p' }
-
-        pub step-draws : {ps' : List ℤ} {p' : List ℕ} → Draws q Told cs cs' ps ps' p' → Steps q w cs ps vs st cs' ps' vs st p'
+        pub step-draws : {ps' : List ℤ} {p' : List ℕ} → Draws q (shows m w pc vs) cs cs' ps ps' p' → Steps q w cs ps vs st cs' ps' vs st p'
         step-draws {p' = p'} r =
-            record { cells = r .cells; points = r .points; full = h .ready .full; brush = r .brush; tells = λ b. r .tells b vs st ∙ told-is b p' }
+            record { cells = r .cells; points = r .points; full = h .ready .full; brush = r .brush; tells = λ b. r .tells b vs st ∙ is-step b p' }
+
+    pub step-21 : meaning (formOf (at w pc)) ≡ Unknown → Steps 21 w cs ps vs st cs ps vs st p
+    step-21 k = refuses (h .ready) 19 (λ b. Fetched.step-21 w (look b cs ps vs st) inside (rw (h .counter) at k))

@@ -1,31 +1,33 @@
--- `step`: the word has its row of the table, what was taken is what the row's source names, and the op does what its rule says.
-use Prim.Native.Nat.{ℕ}
-use mathlib.Core.Path.{_≡_, sym, ap}
-use native.Mathlib.Omega.{arith}
+-- `step`: the word has its form, and its group does what the form must show.
+use mathlib.Core.Path.{_≡_, sym, ap, _∙_}
 use borrow.Author.Needs.{needs}
-use lib.ListN.{length}
 use Rattle.numbers.specs.declared.place.WordIndex.{WordIndex}
+use Rattle.rules.specs.declared.opcode.Form.{Form}
 use Rattle.rules.specs.Table.{formOf}
-use Rattle.rules.proofs.TableLaws.{at, unknown}
-use Rattle.step.proofs.Stepping.{Here, step-20, reaches, handed, drawable, stacked, step-21, step-turns, step-sets, step-stacks, step-moves, step-paints, step-draws}
+use Rattle.rules.specs.Meaning.{meaning}
+use Rattle.rules.specs.Operands.{at}
+use Rattle.step.proofs.Stepping.{Here, step-20, reaches, drawable, stacked, step-21, step-sets, step-stacks, step-moves, step-draws}
 use Rattle.step.proofs.step.step.Statement.{statement}
 use Rattle.step.proofs.step.step.Tie as tie
 
 index : {i j : WordIndex} → i ≡ j → i .0 ≡ j .0
 index e = ap (λ (i : WordIndex). i .0) e
 
-here : (d : tie.After-shared-slice-known2) → let a = d .before .before .before .before .before .before .args in
-    Here (a .words .now) (a .cells .now) (a .points .now) (a .vars .now) (a .stack .now) (a .brush .now) (d .before .before .before .counter .result .0)
-here d = record { ready = d .before .before .before .before .before .before .pre; counter = index (d .before .before .before .counter .ensures); inside = d .before .if1 .left }
+here : (d : tie.After-form-of) → let a = d .before .before .before .before .before .before .before .args in
+    Here (a .words .now) (a .cells .now) (a .points .now) (a .vars .now) (a .stack .now) (a .brush .now) (d .before .before .before .before .counter .result .0)
+here d =
+    record {
+      ready = d .before .before .before .before .before .before .before .pre;
+      counter = index (d .before .before .before .before .counter .ensures);
+      inside = d .before .before .if1 .left;
+    }
 
-abbrev count : tie.After-shared-slice-known2 → ℕ
-count d = length (d .before .before .before .before .before .before .args .words .now)
-
-row : {n k : ℕ} → n ≡ k → formOf n ≡ formOf k
-row e = sym (at e)
+-- what the form means that was found
+means : (d : tie.After-form-of) {f : Form} → d .form-of .result ≡ f
+    → meaning (formOf (at (d .before .before .before .before .before .before .before .args .words .now) (d .before .before .before .before .counter .result .0))) ≡ meaning f
+means d e = ap meaning (sym (d .form-of .ensures) ∙ e)
 
 pub step-spec : {M : Type 1} → statement M
-unfolding formOf
 step-spec =
     tie.close
     (tie.spec
@@ -34,146 +36,18 @@ step-spec =
     (λ c. step-20 (c .before .before .before .before .before .pre) (index (c .before .before .counter .ensures)) (c .if1 .taken))
     (λ c. search needs)
     (λ c. search needs)
+    (λ c κs. search needs)
     (λ c. search needs)
-    (λ c κs. reaches (here (c .before)))
-    (λ c κs. (here (c .before .before .before)) .ready .cells)
-    (λ c κs. reaches (here (c .before)))
-    (λ c κs. (here (c .before .before .before)) .ready .cells)
-    (λ c κs. reaches (here (c .before)))
-    (λ c κs. (c .before .before .long-var .ensures .1, (here (c .before .before .before .before)) .ready .cells))
-    (λ c κs. reaches (here (c .before .before)))
-    (λ c κs. (c .before .before .var-var .ensures .1, (here (c .before .before .before .before .before)) .ready .cells))
-    (λ c κs. reaches (here (c .before)))
-    (λ c κs. (c .before .before .long-var2 .ensures .1, (here (c .before .before .before .before)) .ready .cells))
-    (λ c κs. reaches (here (c .before .before)))
-    (λ c κs. (c .before .before .var-var2 .ensures .1, (here (c .before .before .before .before .before)) .ready .cells))
-    (λ c κs. reaches (here (c .before)))
-    (λ c κs. stacked (here (c .before .before .before .before)))
-    (λ c κs. (reaches (here (c .before .before)), omega arith, omega arith))
-    (λ c κs. stacked (here (c .before .before .before .before .before)))
-    (λ c κs. reaches (here (c .before)))
-    (λ c κs. (here (c .before .before .before)) .ready .cells)
-    (λ c κs. (reaches (here (c .before .before)), omega arith, omega arith))
-    (λ c κs. (here (c .before .before .before .before)) .ready .cells)
-    (λ c κs. reaches (here (c .before)))
-    (λ c κs. ((here (c .before .before .before .before)) .ready .cells, (here (c .before .before .before .before)) .ready .points))
-    (λ c κs. (reaches (here (c .before .before)), omega arith, omega arith))
-    (λ c κs. ((here (c .before .before .before .before .before)) .ready .cells, (here (c .before .before .before .before .before)) .ready .points))
-    (λ c κs. reaches (here (c .before)))
-    (λ c κs. (here (c .before .before .before)) .ready .cells)
-    (λ c κs. (reaches (here (c .before .before)), omega arith, omega arith))
-    (λ c κs. (here (c .before .before .before .before)) .ready .cells)
-    (λ c κs. reaches (here (c .before)))
-    (λ c κs. (c .before .before .long-var3 .ensures .1, (here (c .before .before .before .before)) .ready .cells))
-    (λ c κs. reaches (here (c .before .before)))
-    (λ c κs. (c .before .before .var-var3 .ensures .1, (here (c .before .before .before .before .before)) .ready .cells))
-    (λ c κs. reaches (here (c .before)))
-    (λ c κs. (c .before .before .var .ensures .1, (here (c .before .before .before .before)) .ready .cells))
-    (λ c κs. reaches (here (c .before .before)))
-    (λ c κs. (c .before .before .var-var4 .ensures .1, (here (c .before .before .before .before .before)) .ready .cells))
-    (λ c κs. reaches (here (c .before)))
-    (λ c κs. (c .before .before .var2 .ensures .1, (here (c .before .before .before .before)) .ready .cells))
-    (λ c κs. reaches (here (c .before)))
-    (λ c κs. (c .before .before .word-var .ensures .1, (here (c .before .before .before .before)) .ready .cells))
-    (λ c κs. reaches (here (c .before)))
-    (λ c κs. (c .before .before .long-var4 .ensures .1, (here (c .before .before .before .before)) .ready .cells))
-    (λ c κs. reaches (here (c .before .before)))
-    (λ c κs. (c .before .before .var-var5 .ensures .1, (here (c .before .before .before .before .before)) .ready .cells))
-    (λ c κs. reaches (here (c .before)))
-    (λ c κs. handed (here (c .before .before .before .before)))
-    (λ c κs. (reaches (here (c .before .before)), omega arith, omega arith))
-    (λ c κs. handed (here (c .before .before .before .before .before)))
-    (λ c κs. reaches (here (c .before)))
-    (λ c κs. drawable (here (c .before .before .before .before .before)))
-    (λ c κs. (reaches (here (c .before .before)), omega arith, omega arith))
-    (λ c κs. drawable (here (c .before .before .before .before .before .before)))
-    (λ c κs. reaches (here (c .before)))
-    (λ c κs. drawable (here (c .before .before .before .before .before)))
-    (λ c κs. (reaches (here (c .before .before)), omega arith, omega arith))
-    (λ c κs. drawable (here (c .before .before .before .before .before .before)))
-    (λ c κs. reaches (here (c .before .before)))
-    (λ c κs. (c .before .before .var-var6 .ensures .1, (here (c .before .before .before .before .before)) .ready .cells))
-    (λ c κs. reaches (here (c .before .before)))
-    (λ c κs. (c .before .before .var-var7 .ensures .1, (here (c .before .before .before .before .before)) .ready .cells))
-    (λ c κs. reaches (here (c .before)))
-    (λ c κs. ((here (c .before .before .before .before)) .ready .cells, (here (c .before .before .before .before)) .ready .points))
-    (λ c κs. (reaches (here (c .before .before)), omega arith, omega arith))
-    (λ c κs. ((here (c .before .before .before .before .before)) .ready .cells, (here (c .before .before .before .before .before)) .ready .points))
-    (λ c κs. reaches (here (c .before)))
-    (λ c κs. ((here (c .before .before .before .before)) .ready .cells, (here (c .before .before .before .before)) .ready .points))
-    (λ c κs. (reaches (here (c .before .before)), omega arith, omega arith))
-    (λ c κs. ((here (c .before .before .before .before .before)) .ready .cells, (here (c .before .before .before .before .before)) .ready .points))
-    (λ c κs. reaches (here (c .before)))
-    (λ c κs. (c .before .before .long-var5 .ensures .1, (here (c .before .before .before .before)) .ready .cells))
-    (λ c κs. reaches (here (c .before .before)))
-    (λ c κs. (c .before .before .var-var8 .ensures .1, (here (c .before .before .before .before .before)) .ready .cells))
-    (λ c κs. reaches (here (c .before)))
-    (λ c κs. handed (here (c .before .before .before .before)))
-    (λ c κs. (reaches (here (c .before .before)), omega arith, omega arith))
-    (λ c κs. handed (here (c .before .before .before .before .before)))
-    (λ c κs. reaches (here (c .before)))
-    (λ c κs. stacked (here (c .before .before .before .before)))
-    (λ c κs. reaches (here (c .before)))
-    (λ c κs. (here (c .before .before .before)) .ready .cells)
-    (λ c κs. reaches (here (c .before)))
-    (λ c κs. (here (c .before .before .before)) .ready .cells)
-    (λ c κs. reaches (here (c .before)))
-    (λ c κs. stacked (here (c .before .before .before .before)))
-    (λ c κs. (reaches (here (c .before .before)), omega arith, omega arith))
-    (λ c κs. stacked (here (c .before .before .before .before .before)))
-    (λ c κs. reaches (here (c .before)))
-    (λ c κs. handed (here (c .before .before .before .before)))
-    (λ c κs. (reaches (here (c .before .before)), omega arith, omega arith))
-    (λ c κs. handed (here (c .before .before .before .before .before)))
-    (λ c κs. reaches (here (c .before)))
-    (λ c κs. handed (here (c .before .before .before .before)))
-    (λ c κs. (reaches (here (c .before .before)), omega arith, omega arith))
-    (λ c κs. handed (here (c .before .before .before .before .before)))
-    (λ c. let m = c .before .before .before in step-turns (here (m .before)) (row (m .match .keys1)) (c .before .before .plain .ensures _) (c .noop .ensures (count (m .before))))
-    (λ c. let m = c .before .before .before in step-turns (here (m .before)) (row (m .match .keys2)) (c .before .before .plain2 .ensures _) (c .end .ensures (count (m .before))))
-    (λ c. let m = c .before .before .before .before in step-sets (here (m .before)) (row (m .match .keys3)) (c .before .before .before .long-var .ensures .0 _) (c .add .ensures (count (m .before))))
-    (λ c. let m = c .before .before .before .before .before in step-sets (here (m .before)) (row (m .match .keys4)) (c .before .before .before .var-var .ensures .0) (c .add2 .ensures (count (m .before))))
-    (λ c. let m = c .before .before .before .before in step-sets (here (m .before)) (row (m .match .keys5)) (c .before .before .before .long-var2 .ensures .0 _) (c .and .ensures (count (m .before))))
-    (λ c. let m = c .before .before .before .before .before in step-sets (here (m .before)) (row (m .match .keys6)) (c .before .before .before .var-var2 .ensures .0) (c .and2 .ensures (count (m .before))))
-    (λ c. let m = c .before .before .before .before in step-stacks (here (m .before)) (row (m .match .keys7)) (c .before .before .before .long .ensures _) (c .call .ensures))
-    (λ c. let m = c .before .before .before .before .before in step-stacks (here (m .before)) (row (m .match .keys8)) (c .before .before .before .from .ensures) (c .call2 .ensures))
-    (λ c. let m = c .before .before .before in step-turns (here (m .before)) (row (m .match .keys9)) (c .before .before .plain3 .ensures _) (c .clip-mode .ensures (count (m .before))))
-    (λ c. let m = c .before .before .before .before in step-turns (here (m .before)) (row (m .match .keys10)) (c .before .before .from2 .ensures) (c .clip-mode2 .ensures (count (m .before))))
-    (λ c. let m = c .before .before .before .before in step-moves (here (m .before)) (row (m .match .keys11)) (c .before .before .before .plain4 .ensures _) (c .clip-window .ensures (count (m .before))))
-    (λ c. let m = c .before .before .before .before .before in step-moves (here (m .before)) (row (m .match .keys12)) (c .before .before .before .from3 .ensures) (c .clip-window2 .ensures (count (m .before))))
-    (λ c. let m = c .before .before .before in step-turns (here (m .before)) (row (m .match .keys13)) (c .before .before .long2 .ensures _) (c .colour .ensures (count (m .before))))
-    (λ c. let m = c .before .before .before .before in step-turns (here (m .before)) (row (m .match .keys14)) (c .before .before .from4 .ensures) (c .colour2 .ensures (count (m .before))))
-    (λ c. let m = c .before .before .before .before in step-sets (here (m .before)) (row (m .match .keys15)) (c .before .before .before .long-var3 .ensures .0 _) (c .compare .ensures (count (m .before))))
-    (λ c. let m = c .before .before .before .before .before in step-sets (here (m .before)) (row (m .match .keys16)) (c .before .before .before .var-var3 .ensures .0) (c .compare2 .ensures (count (m .before))))
-    (λ c. let m = c .before .before .before .before in step-sets (here (m .before)) (row (m .match .keys17)) (c .before .before .before .var .ensures .0 _) (c .decrement .ensures (count (m .before))))
-    (λ c. let m = c .before .before .before .before .before in step-sets (here (m .before)) (row (m .match .keys18)) (c .before .before .before .var-var4 .ensures .0) (c .divide .ensures (count (m .before))))
-    (λ c. let m = c .before .before .before .before in step-sets (here (m .before)) (row (m .match .keys19)) (c .before .before .before .var2 .ensures .0 _) (c .increment .ensures (count (m .before))))
-    (λ c. let m = c .before .before .before .before in step-sets (here (m .before)) (row (m .match .keys20)) (c .before .before .before .word-var .ensures .0 _) (c .load .ensures (count (m .before))))
-    (λ c. let m = c .before .before .before .before in step-sets (here (m .before)) (row (m .match .keys21)) (c .before .before .before .long-var4 .ensures .0 _) (c .load2 .ensures (count (m .before))))
-    (λ c. let m = c .before .before .before .before .before in step-sets (here (m .before)) (row (m .match .keys22)) (c .before .before .before .var-var5 .ensures .0) (c .load3 .ensures (count (m .before))))
-    (λ c. let m = c .before .before .before .before in step-paints (here (m .before)) (row (m .match .keys23)) (c .before .before .before .plain5 .ensures _) (c .line .ensures (count (m .before))))
-    (λ c. let m = c .before .before .before .before .before in step-paints (here (m .before)) (row (m .match .keys24)) (c .before .before .before .from5 .ensures) (c .line2 .ensures (count (m .before))))
-    (λ c. let m = c .before .before .before .before .before in step-draws (here (m .before)) (row (m .match .keys25)) (c .before .before .before .before .plain6 .ensures _) (c .line-to .ensures (count (m .before))))
-    (λ c. let m = c .before .before .before .before .before .before in step-draws (here (m .before)) (row (m .match .keys26)) (c .before .before .before .before .from6 .ensures) (c .line-to2 .ensures (count (m .before))))
-    (λ c. let m = c .before .before .before .before .before in step-draws (here (m .before)) (row (m .match .keys27)) (c .before .before .before .before .plain7 .ensures _) (c .line-by .ensures (count (m .before))))
-    (λ c. let m = c .before .before .before .before .before .before in step-draws (here (m .before)) (row (m .match .keys28)) (c .before .before .before .before .from7 .ensures) (c .line-by2 .ensures (count (m .before))))
-    (λ c. let m = c .before .before .before .before .before in step-sets (here (m .before)) (row (m .match .keys29)) (c .before .before .before .var-var6 .ensures .0) (c .multiply .ensures (count (m .before))))
-    (λ c. let m = c .before .before .before .before .before in step-sets (here (m .before)) (row (m .match .keys30)) (c .before .before .before .var-var7 .ensures .0) (c .remainder .ensures (count (m .before))))
-    (λ c. let m = c .before .before .before .before in step-moves (here (m .before)) (row (m .match .keys31)) (c .before .before .before .plain8 .ensures _) (c .move-to .ensures (count (m .before))))
-    (λ c. let m = c .before .before .before .before .before in step-moves (here (m .before)) (row (m .match .keys32)) (c .before .before .before .from8 .ensures) (c .move-to2 .ensures (count (m .before))))
-    (λ c. let m = c .before .before .before .before in step-moves (here (m .before)) (row (m .match .keys33)) (c .before .before .before .plain9 .ensures _) (c .move-by .ensures (count (m .before))))
-    (λ c. let m = c .before .before .before .before .before in step-moves (here (m .before)) (row (m .match .keys34)) (c .before .before .before .from9 .ensures) (c .move-by2 .ensures (count (m .before))))
-    (λ c. let m = c .before .before .before .before in step-sets (here (m .before)) (row (m .match .keys35)) (c .before .before .before .long-var5 .ensures .0 _) (c .or .ensures (count (m .before))))
-    (λ c. let m = c .before .before .before .before .before in step-sets (here (m .before)) (row (m .match .keys36)) (c .before .before .before .var-var8 .ensures .0) (c .or2 .ensures (count (m .before))))
-    (λ c. let m = c .before .before .before .before in step-paints (here (m .before)) (row (m .match .keys37)) (c .before .before .before .plain10 .ensures _) (c .pixel .ensures (count (m .before))))
-    (λ c. let m = c .before .before .before .before .before in step-paints (here (m .before)) (row (m .match .keys38)) (c .before .before .before .from10 .ensures) (c .pixel2 .ensures (count (m .before))))
-    (λ c. let m = c .before .before .before .before in step-stacks (here (m .before)) (row (m .match .keys39)) (c .before .before .before .plain11 .ensures _) (c .come-back .ensures (count (m .before))))
-    (λ c. let m = c .before .before .before in step-turns (here (m .before)) (row (m .match .keys40)) (c .before .before .word-long .ensures _) (c .jump .ensures))
-    (λ c. let m = c .before .before .before in step-turns (here (m .before)) (row (m .match .keys41)) (c .before .before .plain12 .ensures _) (c .jump-by .ensures))
-    (λ c. let m = c .before .before .before .before in step-stacks (here (m .before)) (row (m .match .keys42)) (c .before .before .before .plain13 .ensures _) (c .call-by .ensures))
-    (λ c. let m = c .before .before .before .before .before in step-stacks (here (m .before)) (row (m .match .keys43)) (c .before .before .before .from11 .ensures) (c .call-by2 .ensures))
-    (λ c. let m = c .before .before .before .before in step-paints (here (m .before)) (row (m .match .keys44)) (c .before .before .before .word2-long .ensures _) (c .pixel-colour .ensures (count (m .before))))
-    (λ c. let m = c .before .before .before .before .before in step-paints (here (m .before)) (row (m .match .keys45)) (c .before .before .before .from12 .ensures) (c .pixel-colour2 .ensures (count (m .before))))
-    (λ c. let m = c .before .before .before .before in step-paints (here (m .before)) (row (m .match .keys46)) (c .before .before .before .long-word .ensures _) (c .clear .ensures (count (m .before))))
-    (λ c. let m = c .before .before .before .before .before in step-paints (here (m .before)) (row (m .match .keys47)) (c .before .before .before .from13 .ensures) (c .clear2 .ensures (count (m .before))))
-    (λ c. step-21 (here (c .before)) (unknown _ (c .match .rest))))
+    (λ c. search needs)
+    (λ c κs. let h = here (c .before .before .before .before .before .before) in (reaches h, stacked h))
+    (λ c. search needs)
+    (λ c κs. let h = here (c .before .before .before .before .before) in (reaches h, h .ready .cells))
+    (λ c. search needs)
+    (λ c κs. let h = here (c .before .before .before .before .before .before) in (reaches h, h .ready .cells, h .ready .points))
+    (λ c. search needs)
+    (λ c κs. let h = here (c .before .before .before .before .before .before .before) in (reaches h, drawable h))
+    (λ c. step-21 (here (c .before .before)) (means (c .before .before) (c .enum-told .given .1)))
+    (λ c. let d = c .before .before .before .before .before .before .before in step-stacks (here d) (means d (c .before .before .before .before .before .form .given .1)) (c .step .ensures))
+    (λ c. let d = c .before .before .before .before .before .before in step-sets (here d) (means d (c .before .before .before .before .form2 .given .1)) (c .step2 .ensures))
+    (λ c. let d = c .before .before .before .before .before .before .before in step-moves (here d) (means d (c .before .before .before .before .before .form3 .given .1)) (c .step3 .ensures))
+    (λ c. let d = c .before .before .before .before .before .before .before .before in step-draws (here d) (means d (c .before .before .before .before .before .before .form4 .given .1)) (c .step4 .ensures)))
