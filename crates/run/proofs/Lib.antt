@@ -1,4 +1,5 @@
 pub mod Doors
 pub mod Stepping
 pub mod Lending
+pub mod Refusals
 pub mod Sides

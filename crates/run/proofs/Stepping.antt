@@ -15,7 +15,7 @@ use Rattle.player.specs.Player.{verdict, Outcome, done, refused}
 use Rattle.player.specs.Run.{answer}
 use Rattle.player.specs.Shown.{Marks, went, stayed, shown}
 use Rattle.player.proofs.Runs.{Leaves}
-use Rattle.rules.specs.Environment.{Env, turned, stateOf, frame}
+use Rattle.rules.specs.Environment.{Env, stated, stateOf, frame}
 use Rattle.rules.specs.Step.{step, afgis}
 use Rattle.rules.specs.Door.{between, sizeFits, fits}
 use Rattle.rules.proofs.Ranges.{one, Fits, joined, parted}
@@ -59,13 +59,13 @@ not-running n h q = at-one (eqb n 1) (rw (ne-eqb n 0 h) at q)
     at-one true p = let z : _≡_ {A = ℕ} 0 1 = cc in omega (arith, z)
     at-one false p = let z : _≡_ {A = ℕ} 0 1 = cc in omega (arith, z)
 
-stopped-state : (n : ℕ) → between 20 29 n ≡ true → stateOf n ≡ Stopped (verdict n)
+pub stopped-state : (n : ℕ) → between 20 29 n ≡ true → stateOf n ≡ Stopped (verdict n)
 unfolding stateOf
 stopped-state n h =
     let k = leb-true 20 n (one _ _ h) in
     rw (ne-eqb n 0 (λ z. omega (arith, z, k)), ne-eqb n 1 (λ z. omega (arith, z, k)))
 
 -- stopped with the refusal's number, and that is the answer
-pub stopped-left : (e : Env) {e' : Env} (q : ℕ) → e' ≡ turned (stateOf q) e → between 20 29 q ≡ true → (s : List ℕ) (k : ℕ)
-    → left e' s k ≡ answer (verdict q) (turned (Stopped (verdict q)) e) s k
+pub stopped-left : (e : Env) {e' : Env} (q : ℕ) → e' ≡ stated (stateOf q) e → between 20 29 q ≡ true → (s : List ℕ) (k : ℕ)
+    → left e' s k ≡ answer (verdict q) (stated (Stopped (verdict q)) e) s k
 stopped-left e q p h s k = rw (p, stopped-state q h)

@@ -11,13 +11,13 @@ use Rattle.player.specs.Run.{Answer, answer}
 use Rattle.player.specs.Shown.{numberOf}
 use Rattle.rules.specs.Environment.{Env}
 use Rattle.rules.specs.Door.{sizeFits, fits}
-use Rattle.act.specs.Held.{look, Cells, Points}
+use Rattle.act.specs.Lent.{look, CellsFull, PointsFull}
 
 -- what the door establishes, and every opcode leaves
 pub record Ready (w : List ℕ) (b : Bounds) (cs : List ℕ) (ps : List ℤ) (vs st s : List ℕ) : Type 0 where
   pub few : length w ≤ 65536
-  pub cells : Cells cs
-  pub points : Points ps
+  pub cells : CellsFull cs
+  pub points : PointsFull ps
   pub size : sizeFits b ≡ true
   pub ranges : fits (look b cs ps vs st) ≡ true
   pub full : length st ≡ 16

@@ -4,6 +4,8 @@ use crate::turns::turns;
 use act::registers::cells_of;
 use act::registers::gathered;
 use act::registers::points_of;
+use act::stack::indices_of;
+use act::stack::numbers_of;
 use player::State;
 use rules::answer::Answer;
 use rules::environment::Env;
@@ -29,7 +31,8 @@ pub fn run(list: &[u16], screen: &mut [u8], env: Env, budget: u32) -> Answer
     let b = env.bounds;
     let r = env.registers;
     let mut vars = env.variables;
-    let mut stack = env.stack;
+    let returns = env.stack;
+    let mut stack = numbers_of(returns);
     let d = door(list.len(), screen.len(), b, r, &stack, budget);
     if d != 0 {
         return Answer {
@@ -57,7 +60,7 @@ pub fn run(list: &[u16], screen: &mut [u8], env: Env, budget: u32) -> Answer
             bounds: b,
             registers,
             variables: vars,
-            stack,
+            stack: indices_of(stack),
         },
         steps,
     }

@@ -4,6 +4,7 @@ use act::registers::Points;
 use act::registers::frame;
 use act::registers::set_state;
 use act::registers::state;
+use act::stack::Stack;
 use raster::brush::Brush;
 use raster::brush::paint;
 use raster::frame::Bounds;
@@ -11,7 +12,7 @@ use step::step::step;
 ghost use mathlib.Core.Path.{_≡_};
 ghost use Rattle.player.specs.Run.{runs};
 ghost use Rattle.rules.specs.Step.{afgis};
-ghost use Rattle.act.specs.Held.{look};
+ghost use Rattle.act.specs.Lent.{look};
 ghost use Rattle.run.specs.Turns.{Ready, left};
 
 // How many were carried out.
@@ -21,7 +22,7 @@ pub fn turns(
     cells: &mut Cells,
     points: &mut Points,
     vars: &mut [u32; 64],
-    stack: &mut [u32; 16],
+    stack: &mut Stack,
     screen: &mut [u8],
     budget: u32,
 ) -> u32

@@ -3,14 +3,17 @@ use Prim.Native.Nat.{_≤_, _-_}
 use mathlib.Core.Path.{_≡_, refl, sym}
 use mathlib.Core.Bool.{true}
 use native.Mathlib.Omega.{arith}
+use borrow.Author.Needs.{needs}
+use borrow.Author.Tests.{not-true, not-false}
 use Rattle.rules.specs.Environment.{firsts}
 use Rattle.rules.specs.Door.{indices}
+use Rattle.act.specs.Lent.{indexed}
 use Rattle.run.proofs.Doors.{bad, good}
 use Rattle.run.proofs.door.indices.Statement.{statement}
 use Rattle.run.proofs.door.indices.Tie as tie
 
 abbrev Inv-loop : tie.InvT-loop
-Inv-loop stack depth i₀ i = (i ≤ depth) × (indices (firsts i stack) ≡ true)
+Inv-loop stack depth i₀ i = (i ≤ depth) × (indices (firsts i (indexed stack)) ≡ true)
 
 abbrev μ-loop : tie.MeasureT-loop
 μ-loop stack depth i₀ i = depth - i
@@ -21,14 +24,16 @@ loop-holds c = (omega arith, refl)
 
 returns : tie.Need-returns Inv-loop μ-loop
 returns c =
-    let l = c .before .before .before in
+    let f = c .before in
+    let l = f .before .before .before in
     let a = l .before .args in
-    bad (a .depth) (l .loop .i) (a .stack .now) (c .before .before .loop-test .taken) (c .if1 .taken)
+    bad (l .loop .i) (a .stack .now) (f .before .stacked-at .ensures) (f .index-fits .ensures) (a .depth) (f .before .before .loop-test .taken) (not-true _ (c .if1 .taken))
 
 loop-again : tie.Need-loop-again Inv-loop μ-loop
 loop-again c =
-    let l = c .before .before .before in
-    (omega arith, good (l .loop .i) (l .before .args .stack .now) (l .loop .inv .1) (c .if1 .left))
+    let f = c .before in
+    let l = f .before .before .before in
+    (omega arith, good (l .loop .i) (l .before .args .stack .now) (f .before .stacked-at .ensures) (f .index-fits .ensures) (l .loop .inv .1) (not-false _ (c .if1 .left)))
 
 returns-2 : tie.Need-returns-2 Inv-loop μ-loop
 returns-2 c = let e : c .before .loop .i ≡ c .before .before .args .depth = omega arith in sym (rw e at (c .before .loop .inv .1))
@@ -40,9 +45,8 @@ indices-spec =
     Inv-loop
     μ-loop
     loop-holds
-    (λ c. omega arith)
-    (λ c. omega arith)
-    (λ c. omega arith)
+    (λ c κs. (omega arith, search needs))
+    (λ c κs. search needs)
     returns
     (λ c. omega arith)
     (λ c. omega arith)

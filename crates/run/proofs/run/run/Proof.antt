@@ -6,34 +6,38 @@ use Rattle.player.specs.Run.{runs}
 use Rattle.player.specs.Shown.{numberOf}
 use Rattle.player.proofs.Doors.{refused-whole, run-whole}
 use Rattle.rules.specs.Environment.{Env, held}
-use Rattle.rules.specs.Door.{fits, machine}
+use Rattle.rules.specs.Door.{fits, door, machine}
 use Rattle.rules.specs.Step.{afgis}
-use Rattle.act.specs.Held.{look}
+use Rattle.act.specs.Lent.{look}
 use Rattle.run.proofs.Doors.{let-in}
-use Rattle.run.proofs.Lending.{full-points, lent, answers}
+use Rattle.run.proofs.Lending.{entered, full-points, lent, answers}
 use Rattle.run.proofs.run.run.Statement.{statement}
 use Rattle.run.proofs.run.run.Tie as tie
 
+-- the door was asked of the environment that came in
+said : (c : tie.After-door) → let a = c .before .before .before .before .before .before .before .before .before .args in
+    c .door .result ≡ door (record { list = a .list .now; budget = a .budget }) (held (a .env)) (length (a .screen .now))
+said c =
+    let a = c .before .before .before .before .before .before .before .before .before .args in
+    c .door .ensures _ _ refl
+    ∙ ap (λ (e : Env). door (record { list = a .list .now; budget = a .budget }) e (length (a .screen .now))) (entered _ _ _ _ (c .before .before .numbers-of .ensures .0))
+
 returns : tie.Need-returns
 returns c =
-    let a = c .before .before .before .before .before .before .before .before .before .args in
-    refused-whole machine (record { list = a .list .now; budget = a .budget }) (held (a .env)) (a .screen .now) _ (c .before .door .ensures _ _ refl) (c .if1 .taken)
-
-full : (c : tie.After-stack2) → length (c .before .before .before .before .before .before .before .args .env .stack) ≡ 16
-full c = search needs
+    let a = c .before .before .before .before .before .before .before .before .before .before .args in
+    refused-whole machine (record { list = a .list .now; budget = a .budget }) (held (a .env)) (a .screen .now) _ (said (c .before)) (c .if1 .taken)
 
 -- what is lent to the loop stands for the environment
-same : (c : tie.After-turns-arg) → let e = c .before .before .before .before .before .before .before .before .before .before .before .before .before .before .before .before .args .env in
-    look (e .bounds) (c .before .before .before .before .before .before .cells-of .result) (c .before .before .before .before .before .points-of .result) (e .variables) (e .stack) ≡ held e
+same : (c : tie.After-turns-arg) → let e = c .before .before .before .before .before .before .before .before .before .before .before .before .before .before .before .before .before .args .env in
+    look (e .bounds) (c .before .before .before .before .before .before .cells-of .result) (c .before .before .before .before .before .points-of .result) (e .variables) (c .before .before .before .before .before .before .before .before .before .before .numbers-of .result) ≡ held e
 same c =
-    let e = c .before .before .before .before .before .before .before .before .before .before .before .before .before .before .before .before .args .env in
-    lent (e .registers) (c .before .before .before .before .before .before .cells-of .ensures) (c .before .before .before .before .before .points-of .ensures) (e .bounds) (e .variables) (e .stack)
+    let e = c .before .before .before .before .before .before .before .before .before .before .before .before .before .before .before .before .before .args .env in
+    lent (e .registers) (c .before .before .before .before .before .before .cells-of .ensures) (c .before .before .before .before .before .points-of .ensures) (e .bounds) (e .variables) (e .stack) (c .before .before .before .before .before .before .before .before .before .before .numbers-of .ensures .0)
 
 turns-requires : tie.Need-turns-requires
 turns-requires c κs =
-    let d = c .before .before .before .before .before .before .before .before in
-    let a = d .before .before .before .before .before .before .before .before .args in
-    let o = let-in (a .list .now) (a .screen .now) (held (a .env)) (a .budget) _ (d .door .ensures _ _ refl) (c .before .before .before .before .before .before .before .if1 .left) in
+    let a = c .before .before .before .before .before .before .before .before .before .before .before .before .before .before .before .before .before .args in
+    let o = let-in (a .list .now) (a .screen .now) (held (a .env)) (a .budget) _ (said (c .before .before .before .before .before .before .before .before)) (c .before .before .before .before .before .before .before .if1 .left) in
     let cs = c .before .before .before .before .before .before .cells-of .ensures in
     let ps = c .before .before .before .before .before .points-of .ensures in
     record {
@@ -42,31 +46,31 @@ turns-requires c κs =
       points = full-points _ cs ps;
       size = o .size;
       ranges = ap fits (same c) ∙ o .ranges;
-      full = full (d .before);
+      full = c .before .before .before .before .before .before .before .before .before .before .numbers-of .ensures .1;
       area = o .area;
     }
 
 returns-2 : tie.Need-returns-2
 returns-2 c =
-    let t = c .before .before .before .before .before .before .before in
-    let f = t .before .before .before .before .before .before .before .before in
-    let d = f .before in
-    let a = d .before .before .before .before .before .before .before .before .args in
+    let t = c .before .before .before .before .before .before .before .before in
+    let a = c .before .before .before .before .before .before .before .before .before .before .before .before .before .before .before .before .before .before .before .before .before .before .before .before .before .before .args in
     let z = t .turns .last .1 .1 in
-    answers _ _ (z .0) (z .1 .0) _ _ _ _ _ (c .before .before .gathered .ensures) (c .number-of .ensures ∙ ap numberOf (c .before .state-of .ensures))
+    answers _ _ (z .0) (z .1 .0) _ (z .1 .1 .1 .0) _ _ _ (c .indices-of .ensures) (c .before .before .before .gathered .ensures) (c .before .number-of .ensures ∙ ap numberOf (c .before .before .state-of .ensures))
     (t .turns .ensures
     ∙ (ap (λ (x : Env). runs (afgis (a .list .now)) (a .budget) x (a .screen .now) 0) (same (t .before))
-    ∙ run-whole machine (record { list = a .list .now; budget = a .budget }) (held (a .env)) (a .screen .now) _ (d .door .ensures _ _ refl) (f .if1 .left)))
+    ∙ run-whole machine (record { list = a .list .now; budget = a .budget }) (held (a .env)) (a .screen .now) _ (said (c .before .before .before .before .before .before .before .before .before .before .before .before .before .before .before .before .before)) (c .before .before .before .before .before .before .before .before .before .before .before .before .before .before .before .before .if1 .left)))
 
 pub run-spec : {M : Type 1} → statement M
 run-spec =
     tie.close
     (tie.spec
     (λ c κs. search needs)
+    (λ c κs. c .before .numbers-of .ensures .1)
     returns
     (λ c κs. search needs)
     (λ c κs. search needs)
     turns-requires
+    (λ c κs. search needs)
     (λ c κs. search needs)
     (λ c κs. search needs)
     (λ c κs. search needs)

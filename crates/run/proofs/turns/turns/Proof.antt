@@ -14,7 +14,7 @@ use Rattle.player.specs.Shown.{marks, brushed}
 use Rattle.player.proofs.Turning.{painting, not-carried-out, Turned, turned-long, turned-painting, turned-quiet, rest, go-on, stop, used-up}
 use Rattle.rules.specs.Environment.{frame}
 use Rattle.rules.specs.Step.{afgis}
-use Rattle.act.specs.Held.{look}
+use Rattle.act.specs.Lent.{look}
 use Rattle.run.specs.Turns.{Ready}
 use Rattle.run.proofs.Stepping.{running, not-running, leaves-fits, told-refusal, may-draw, stopped-left}
 use Rattle.run.proofs.turns.turns.Statement.{statement}
