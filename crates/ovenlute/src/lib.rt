@@ -8,8 +8,8 @@ use rules::answer::Answer;
 use rules::answer::Made;
 use rules::environment::Env;
 use rules::environment::Registers;
-use run::door::pane_fits;
-use run::door::size_fits;
+use run::bounds::pane_fits;
+use run::bounds::size_fits;
 ghost use mathlib.Core.Path.{_≡_};
 ghost use Prim.Native.Nat.{_≤_};
 ghost use Rattle.rules.specs.Environment.{held};
@@ -40,7 +40,7 @@ fn blank(bounds: Bounds, colour: u8, x: u32, y: u32) -> Env
             state: 0,
         },
         variables: [0; 64],
-        stack: [0; 16],
+        stack: [WordIndex(0); 16],
     }
 }
 
@@ -88,7 +88,7 @@ pub fn fresh(width: u32, height: u32, pane: Pane) -> Made
     }
 }
 
-// Runs a list: at most `budget` opcodes.
+// Runs a list, at most `budget` opcodes, over an environment by value: for programs of Rattle.
 pub fn run(list: &[u16], screen: &mut [u8], env: Env, budget: u32) -> Answer
     ensures { λ a. ⌜ Promise (now (list .entry)) (now (screen .entry)) env budget a (now (screen .exit)) ⌝ }
 {
@@ -115,19 +115,6 @@ pub extern "C" fn ovenlute_run(list: &[u16], screen: &mut [u8], env: &mut Env, b
     Done {
         number: answer.number,
         steps: answer.steps,
-    }
-}
-
-// By value again, through the lent run: so that proved programs run what C runs.
-pub fn run_through(list: &[u16], screen: &mut [u8], env: Env, budget: u32) -> Answer
-    ensures { λ a. ⌜ Promise (now (list .entry)) (now (screen .entry)) env budget a (now (screen .exit)) ⌝ }
-{
-    let mut lent = env;
-    let done = ovenlute_run(list, screen, &mut lent, budget);
-    Answer {
-        number: done.number,
-        env: lent,
-        steps: done.steps,
     }
 }
 
