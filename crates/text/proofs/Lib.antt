@@ -1,0 +1,5 @@
+pub mod Parting
+pub mod Tables
+mod Reading
+mod Spelling
+mod Examples

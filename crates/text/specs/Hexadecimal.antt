@@ -1,0 +1,27 @@
+-- A word's four hexadecimal digits, the highest first.
+use Prim.Native.Nat.{ℕ, _+_, _*_, _-_}
+use mathlib.Core.Bool.{Bool, cond, _&&_, _||_}
+use mathlib.Core.List.{List}
+use lib.Dec.{ltb, leb}
+use lib.ListN.{length, getD}
+use Rattle.text.specs.declared.hexadecimal.Word.{Word}
+use Rattle.text.specs.declared.hexadecimal.Word.the-variants.{Is, Wrong}
+use Rattle.text.specs.Number.{digit}
+
+-- 0 to 9 and A to F
+unfoldable pub hexDigit : ℕ → Bool
+hexDigit b = digit b || (leb 65 b && leb b 70)
+
+-- what a digit is worth
+abbrev pub worth : ℕ → ℕ
+worth b = cond (digit b) (b - 48) (b - 55)
+
+unfoldable pub spelt : ℕ → ℕ → ℕ → ℕ → Word
+spelt a b c d =
+    cond (hexDigit a && (hexDigit b && (hexDigit c && hexDigit d)))
+    (Is (worth a * 4096 + worth b * 256 + worth c * 16 + worth d))
+    Wrong
+
+-- what the first four bytes spell
+unfoldable pub hexOf : List ℕ → Word
+hexOf s = cond (ltb (length s) 4) Wrong (spelt (getD s 0 0) (getD s 1 0) (getD s 2 0) (getD s 3 0))
