@@ -4,6 +4,7 @@ use crate::print::end_line;
 use crate::print::signed;
 use crate::print::text;
 use crate::print::unsigned;
+use numbers::place::WordIndex;
 use numbers::value::of_signed;
 use raster::dots::Dot;
 use raster::frame::Bounds;
@@ -21,7 +22,7 @@ pub fn print_answer(answer: Answer) {
     let variables = env.variables;
     print_bounds(env.bounds);
     print_registers(registers);
-    print_returns(&stack, registers.depth as usize);
+    print_returns(stack, registers.depth as usize);
     print_variables(&variables);
 }
 
@@ -64,14 +65,15 @@ fn print_window(window: Window) {
 }
 
 // The first `depth` returns, the first one stacked first.
-fn print_returns(stack: &[u32; 16], depth: usize) {
+fn print_returns(stack: [WordIndex; 16], depth: usize) {
     text(b" returns");
     let mut i = 0;
     while i < stack.len() {
         if depth <= i {
             break;
         }
-        unsigned(b" ", stack[i]);
+        let index = stack[i];
+        unsigned(b" ", index.0);
         i += 1;
     }
     end_line();

@@ -1,24 +1,7 @@
-// What can be wrong with a line, and the message that says so.
+// The message that says what is wrong with a line.
 use crate::print::count;
 use crate::print::line;
-
-pub enum Fault {
-    Unknown,
-    Missing,
-    Extra,
-    NoNumber,
-    Range,
-    NoField,
-    NoWord,
-    TooMany,
-    TooLong,
-    Unended,
-}
-
-pub enum Outcome {
-    Fine,
-    Wrong(Fault),
-}
+use desk::fault::Fault;
 
 pub fn complain(number: usize, fault: Fault) {
     count(b"line ", number);

@@ -1,20 +1,20 @@
 // Goes through the file of cases line by line.
 use crate::command::carry_out;
-use crate::desk::Desk;
-use crate::desk::Turn;
-use crate::desk::wrong;
-use crate::fault::Fault;
-use crate::fault::Outcome;
 use crate::fault::complain;
 use crate::fresh::made_of;
-use crate::list::WORDS;
 use crate::print::line;
 use crate::screen::SCREEN;
-use crate::word::find;
+use desk::desk::Carried;
+use desk::desk::Desk;
+use desk::desk::wrong;
+use desk::fault::Fault;
+use desk::fault::Outcome;
+use desk::list::WORDS;
 use raster::frame::Pane;
+use text::items::find;
 ghost use Prim.Native.Nat.{_≤_};
 ghost use lib.ListN.{length};
-ghost use Rattle.cases.specs.Rooms.{Held};
+ghost use Rattle.desk.specs.Rooms.{WithinRooms};
 
 // The file's room: a file that fills it is too large.
 pub const TEXT: usize = 1048576;
@@ -51,13 +51,13 @@ fn each_line(room: &[u8], bytes: usize, words: &mut [u16; WORDS], screen: &mut [
     let mut number = 1;
     while at < text.len() {
         let end = find(text, at, b'\n');
-        let turn = one_line(text, at, end, desk, words, screen);
-        let outcome = turn.outcome;
+        let carried = one_line(text, at, end, desk, words, screen);
+        let outcome = carried.outcome;
         if let Outcome::Wrong(fault) = outcome {
             complain(number, fault);
             return;
         }
-        desk = turn.desk;
+        desk = carried.desk;
         at = end + 1;
         number += 1;
     }
@@ -65,7 +65,7 @@ fn each_line(room: &[u8], bytes: usize, words: &mut [u16; WORDS], screen: &mut [
 
 // What stands before the first line: an environment of zeros, and no screen.
 fn first_desk() -> Desk
-    ensures { λ r. ⌜ Held r ⌝ }
+    ensures { λ r. ⌜ WithinRooms r ⌝ }
 {
     let pane = Pane {
         left: 0,
@@ -90,10 +90,10 @@ fn one_line(
     desk: Desk,
     words: &mut [u16; WORDS],
     screen: &mut [u8; SCREEN],
-) -> Turn
+) -> Carried
     requires { ⌜ (from ≤ to) × (to ≤ length (now text)) ⌝ }
-    requires { ⌜ Held desk ⌝ }
-    ensures { λ r. ⌜ Held (r .desk) ⌝ }
+    requires { ⌜ WithinRooms desk ⌝ }
+    ensures { λ r. ⌜ WithinRooms (r .desk) ⌝ }
 {
     if to == text.len() {
         return wrong(desk, Fault::Unended);

@@ -1,24 +1,22 @@
 // Makes a fresh environment: 'fresh W H L T R B'.
-use crate::desk::Desk;
-use crate::desk::Turn;
-use crate::desk::fine;
-use crate::desk::wrong;
-use crate::fault::Outcome;
-use crate::number::Number;
-use crate::number::unsigned;
 use crate::print::count;
 use crate::print::end_line;
 use crate::screen::SCREEN;
 use crate::screen::clear;
-use crate::word::word;
+use desk::desk::Carried;
+use desk::desk::Desk;
+use desk::desk::fine;
+use desk::desk::wrong;
+use desk::fault::Outcome;
+use desk::size::area;
+use desk::size::read_six;
 use raster::frame::Pane;
 use rules::answer::Made;
-ghost use Prim.Native.Nat.{_≤_};
-ghost use Rattle.cases.specs.Rooms.{Held};
+ghost use Rattle.desk.specs.Rooms.{WithinRooms};
 
-pub fn fresh(line: &[u8], desk: Desk, screen: &mut [u8; SCREEN]) -> Turn
-    requires { ⌜ Held desk ⌝ }
-    ensures { λ r. ⌜ Held (r .desk) ⌝ }
+pub fn fresh(line: &[u8], desk: Desk, screen: &mut [u8; SCREEN]) -> Carried
+    requires { ⌜ WithinRooms desk ⌝ }
+    ensures { λ r. ⌜ WithinRooms (r .desk) ⌝ }
 {
     let six = read_six(line);
     let outcome = six.outcome;
@@ -49,45 +47,4 @@ pub fn fresh(line: &[u8], desk: Desk, screen: &mut [u8; SCREEN]) -> Turn
 // What the box makes, with none of its promises: no proof here leans on them.
 pub fn made_of(width: u32, height: u32, pane: Pane) -> Made {
     ovenlute::fresh(width, height, pane)
-}
-
-struct Six {
-    numbers: [u32; 6],
-    outcome: Outcome,
-}
-
-// The six numbers behind the line's first word.
-fn read_six(line: &[u8]) -> Six {
-    let mut numbers = [0u32; 6];
-    let mut k = 0;
-    while k < 6 {
-        let read = unsigned(word(line, k + 1));
-        match read {
-            Number::Is(n) => numbers[k] = n,
-            Number::Wrong(fault) => {
-                return Six {
-                    numbers,
-                    outcome: Outcome::Wrong(fault),
-                };
-            }
-        }
-        k += 1;
-    }
-    Six {
-        numbers,
-        outcome: Outcome::Fine,
-    }
-}
-
-// The bytes of a screen whose size is allowed, and 0 for any other.
-fn area(width: u32, height: u32) -> usize
-    ensures { λ r. ⌜ r ≤ 4194304 ⌝ }
-{
-    if 2048 < width {
-        return 0;
-    }
-    if 2048 < height {
-        return 0;
-    }
-    (width * height) as usize
 }

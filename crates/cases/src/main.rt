@@ -1,22 +1,16 @@
 // Runs a file of cases through the box and prints every answer whole. FORMAT.md has the file's format and the answer's layout.
 mod answer; // prints an answer
 mod command; // carries a line out
-mod desk; // what is kept from line to line
-mod fault; // what can be wrong with a line
-mod field; // the fields of the environment
+mod fault; // says what is wrong with a line
 mod file; // goes through the file
 mod fresh; // makes a fresh environment
-mod list; // reads a list
-mod number; // reads a number
 mod print; // writes text and numbers
 mod run; // runs the list
 mod screen; // clears and prints the screen
-mod set; // sets a field of the environment
-mod word; // the words of a line
 
+use desk::list::WORDS;
 use file::TEXT;
 use file::go_through;
-use list::WORDS;
 use print::line;
 use screen::SCREEN;
 

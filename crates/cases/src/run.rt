@@ -1,20 +1,20 @@
 // Runs the list and prints the answer.
 use crate::answer::print_answer;
-use crate::desk::Desk;
-use crate::desk::Turn;
-use crate::desk::fine;
-use crate::desk::with_env;
 use crate::screen::print_screen;
+use desk::desk::Carried;
+use desk::desk::Desk;
+use desk::desk::fine;
+use desk::desk::with_env;
 use rules::answer::Answer;
 use rules::environment::Env;
 ghost use Prim.Native.Nat.{_≤_};
 ghost use lib.ListN.{length};
-ghost use Rattle.cases.specs.Rooms.{Held};
+ghost use Rattle.desk.specs.Rooms.{WithinRooms};
 
-pub fn run(desk: Desk, words: &[u16], screen: &mut [u8]) -> Turn
-    requires { ⌜ Held desk ⌝ }
+pub fn run(desk: Desk, words: &[u16], screen: &mut [u8]) -> Carried
+    requires { ⌜ WithinRooms desk ⌝ }
     requires { ⌜ (desk .words ≤ length (now words)) × (desk .bytes ≤ length (now screen)) ⌝ }
-    ensures { λ r. ⌜ Held (r .desk) ⌝ }
+    ensures { λ r. ⌜ WithinRooms (r .desk) ⌝ }
 {
     let count = desk.words;
     let bytes = desk.bytes;
@@ -29,5 +29,5 @@ pub fn run(desk: Desk, words: &[u16], screen: &mut [u8]) -> Turn
 
 // The box's answer, with none of its promises: no proof here leans on them.
 fn answered(list: &[u16], screen: &mut [u8], env: Env, budget: u32) -> Answer {
-    ovenlute::run_through(list, screen, env, budget)
+    ovenlute::run(list, screen, env, budget)
 }

@@ -2,14 +2,17 @@
 use crate::print::count;
 use crate::print::end_line;
 use crate::print::text;
+ghost use mathlib.Core.Path.{_≡_};
 ghost use Prim.Native.Nat.{_≤_, _<_};
-ghost use lib.ListN.{length};
+ghost use lib.ListN.{length, replicate};
+ghost use lib.Seq.{sets};
 
 // The screen's room: 2,048 x 2,048 bytes.
 pub const SCREEN: usize = 4194304;
 
 pub fn clear(screen: &mut [u8], bytes: usize)
     requires { ⌜ bytes ≤ length (now screen) ⌝ }
+    ensures { λ _. ⌜ now (screen .exit) ≡ sets (now (screen .entry)) 0 (replicate bytes 0) ⌝ }
 {
     let mut i = 0;
     while i < bytes {

@@ -5,10 +5,10 @@ use Rattle.cases.proofs.answer.print_returns.Statement.{statement}
 use Rattle.cases.proofs.answer.print_returns.Tie as tie
 
 abbrev Inv-loop : tie.InvT-loop
-Inv-loop stack depth i₀ t5 i = i ≤ 16
+Inv-loop depth stack i₀ t7 i = i ≤ 16
 
 abbrev μ-loop : tie.MeasureT-loop
-μ-loop stack depth i₀ t5 i = 16 - i
+μ-loop depth stack i₀ t7 i = 16 - i
 
 slice-aggregate-text : tie.Need-slice-aggregate-text Inv-loop μ-loop
 slice-aggregate-text c = search needs
@@ -19,14 +19,14 @@ text-requires c κs = search needs
 loop-holds : tie.Need-loop-holds Inv-loop μ-loop
 loop-holds c = search needs
 
+mul-index : tie.Need-mul-index Inv-loop μ-loop
+mul-index c = search needs
+
+array-copy-out-index : tie.Need-array-copy-out-index Inv-loop μ-loop
+array-copy-out-index c = search needs
+
 slice-aggregate-unsigned : tie.Need-slice-aggregate-unsigned Inv-loop μ-loop
 slice-aggregate-unsigned c = search needs
-
-mul-unsigned : tie.Need-mul-unsigned Inv-loop μ-loop
-mul-unsigned c = search needs
-
-element-copy-out-unsigned : tie.Need-element-copy-out-unsigned Inv-loop μ-loop
-element-copy-out-unsigned c = search needs
 
 unsigned-requires : tie.Need-unsigned-requires Inv-loop μ-loop
 unsigned-requires c κs = search needs
@@ -55,9 +55,9 @@ print-returns-spec =
     slice-aggregate-text
     text-requires
     loop-holds
+    mul-index
+    array-copy-out-index
     slice-aggregate-unsigned
-    mul-unsigned
-    element-copy-out-unsigned
     unsigned-requires
     add-i
     loop-less

@@ -1,0 +1,5 @@
+pub mod Storing
+mod Lines
+mod Listing
+mod Setting
+mod Sizing

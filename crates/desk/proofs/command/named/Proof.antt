@@ -1,0 +1,56 @@
+-- Each number is the place of a name.
+use native.Mathlib.Omega.{arith}
+use Rattle.desk.specs.Commands.{commands, names, named}
+use Rattle.desk.specs.declared.command.Command.the-variants.{Unknown}
+use Rattle.text.proofs.Tables.{at-place, past}
+use borrow.Author.Needs.{needs}
+use Rattle.desk.proofs.command.named.Statement.{statement}
+use Rattle.desk.proofs.command.named.Tie as tie
+
+slice-aggregate-place-in : tie.Need-slice-aggregate-place-in
+slice-aggregate-place-in c = search needs
+
+place-in-requires : tie.Need-place-in-requires
+place-in-requires c κs = search needs
+
+returns : tie.Need-returns
+unfolding named names
+returns c = at-place commands Unknown 0 (c .before .place-in .ensures) (c .match .keys1)
+
+returns-2 : tie.Need-returns-2
+unfolding named names
+returns-2 c = at-place commands Unknown 1 (c .before .place-in .ensures) (c .match .keys2)
+
+returns-3 : tie.Need-returns-3
+unfolding named names
+returns-3 c = at-place commands Unknown 2 (c .before .place-in .ensures) (c .match .keys3)
+
+returns-4 : tie.Need-returns-4
+unfolding named names
+returns-4 c = at-place commands Unknown 3 (c .before .place-in .ensures) (c .match .keys4)
+
+returns-5 : tie.Need-returns-5
+unfolding named names
+returns-5 c = at-place commands Unknown 4 (c .before .place-in .ensures) (c .match .keys5)
+
+returns-6 : tie.Need-returns-6
+unfolding named names
+returns-6 c = at-place commands Unknown 5 (c .before .place-in .ensures) (c .match .keys6)
+
+returns-7 : tie.Need-returns-7
+unfolding named names
+returns-7 c = past commands Unknown (c .before .place-in .ensures) (omega (arith, c .match .rest))
+
+pub named-spec : {M : Type 1} → statement M
+named-spec =
+    tie.close
+    (tie.spec
+    slice-aggregate-place-in
+    place-in-requires
+    returns
+    returns-2
+    returns-3
+    returns-4
+    returns-5
+    returns-6
+    returns-7)

@@ -1,0 +1,126 @@
+// The fields of the environment that are no arrays: their names, and the values that they take.
+use text::items::place_in;
+use text::number::Number;
+use text::number::at_most;
+use text::number::signed;
+use text::number::unsigned;
+ghost use mathlib.Core.Path.{_≡_};
+ghost use Rattle.desk.specs.Fields.{fieldOf, kindOf, kindOfRegister, readAs};
+
+pub enum Field {
+    Bound(Bound),
+    Position(Axis),
+    Corner(Corner),
+    Register(Register),
+}
+
+// What a name stands for.
+pub enum Found {
+    Is(Field),
+    Nothing,
+}
+
+pub enum Bound {
+    Width,
+    Height,
+    Left,
+    Top,
+    Right,
+    Bottom,
+}
+
+pub enum Axis {
+    X,
+    Y,
+}
+
+pub enum Corner {
+    X0,
+    Y0,
+    X1,
+    Y1,
+}
+
+pub enum Register {
+    Mode,
+    First,
+    Second,
+    Counter,
+    Depth,
+    Colour,
+    State,
+}
+
+// The field of that name: each number is the place of a name.
+pub fn field_of(name: &[u8]) -> Found
+    ensures { λ r. ⌜ r ≡ fieldOf (now (name .entry)) ⌝ }
+{
+    let names =
+        b"width height left top right bottom x y x0 y0 x1 y1 mode first second counter depth colour state";
+    match place_in(names, name) {
+        0 => Found::Is(Field::Bound(Bound::Width)),
+        1 => Found::Is(Field::Bound(Bound::Height)),
+        2 => Found::Is(Field::Bound(Bound::Left)),
+        3 => Found::Is(Field::Bound(Bound::Top)),
+        4 => Found::Is(Field::Bound(Bound::Right)),
+        5 => Found::Is(Field::Bound(Bound::Bottom)),
+        6 => Found::Is(Field::Position(Axis::X)),
+        7 => Found::Is(Field::Position(Axis::Y)),
+        8 => Found::Is(Field::Corner(Corner::X0)),
+        9 => Found::Is(Field::Corner(Corner::Y0)),
+        10 => Found::Is(Field::Corner(Corner::X1)),
+        11 => Found::Is(Field::Corner(Corner::Y1)),
+        12 => Found::Is(Field::Register(Register::Mode)),
+        13 => Found::Is(Field::Register(Register::First)),
+        14 => Found::Is(Field::Register(Register::Second)),
+        15 => Found::Is(Field::Register(Register::Counter)),
+        16 => Found::Is(Field::Register(Register::Depth)),
+        17 => Found::Is(Field::Register(Register::Colour)),
+        18 => Found::Is(Field::Register(Register::State)),
+        _ => Found::Nothing,
+    }
+}
+
+// How a value is read.
+enum Kind {
+    Unsigned,
+    Signed,
+    Byte,
+}
+
+fn kind_of(field: Field) -> Kind
+    ensures { λ r. ⌜ r ≡ kindOf field ⌝ }
+{
+    match field {
+        Field::Bound(_) => Kind::Unsigned,
+        Field::Position(_) => Kind::Signed,
+        Field::Corner(_) => Kind::Signed,
+        Field::Register(register) => kind_of_register(register),
+    }
+}
+
+fn kind_of_register(register: Register) -> Kind
+    ensures { λ r. ⌜ r ≡ kindOfRegister register ⌝ }
+{
+    match register {
+        Register::Mode => Kind::Unsigned,
+        Register::First => Kind::Signed,
+        Register::Second => Kind::Signed,
+        Register::Counter => Kind::Unsigned,
+        Register::Depth => Kind::Unsigned,
+        Register::Colour => Kind::Byte,
+        Register::State => Kind::Byte,
+    }
+}
+
+// The value's bits.
+pub fn read_value(field: Field, value: &[u8]) -> Number
+    ensures { λ r. ⌜ r ≡ readAs (kindOf field) (now (value .entry)) ⌝ }
+{
+    let kind = kind_of(field);
+    match kind {
+        Kind::Unsigned => unsigned(value),
+        Kind::Signed => signed(value),
+        Kind::Byte => at_most(value, 255),
+    }
+}
