@@ -1,6 +1,8 @@
 // What the arguments ask for.
-use crate::text::number;
+use crate::number::number;
 use raster::frame::Pane;
+ghost use mathlib.Core.Path.{_≡_};
+ghost use Rattle.play.specs.Panes.{whole as wholeScreen};
 
 // The screen's size, a pane, and the budget of each list.
 pub struct Given {
@@ -50,7 +52,9 @@ fn argument(i: usize) -> u32 {
 }
 
 // A pane as large as the screen. A side of 0 is refused before its pane is looked at.
-fn whole(width: u32, height: u32, budget: u32) -> Given {
+fn whole(width: u32, height: u32, budget: u32) -> Given
+    ensures { λ r. ⌜ r ≡ wholeScreen width height budget ⌝ }
+{
     Given {
         width,
         height,

@@ -1,7 +1,12 @@
 // Reads a file, and the words of a list.
 use crate::report::complain;
-use crate::text::Span;
-use crate::text::bytes_of;
+use crate::span::Span;
+use crate::span::bytes_of;
+ghost use mathlib.Core.Path.{_≡_};
+ghost use Prim.Native.Nat.{_+_, _-_, min};
+ghost use lib.ListN.{length};
+ghost use lib.Seq.{sets};
+ghost use Rattle.play.specs.Words.{word as wordOf, wordsIn};
 
 // Where what was read ends in its room; or a line has told why nothing was.
 pub enum Read {
@@ -71,8 +76,11 @@ fn read_list(path: &[u8], bytes: &mut [u8; LIST], words: &mut [u16], from: usize
     Read::To(put_words(bytes_of(bytes, Span { from: 0, to: end }), words, from))
 }
 
-// Puts the words that the bytes spell into the room from `from` on, and answers where they end.
-fn put_words(bytes: &[u8], words: &mut [u16], from: usize) -> usize {
+// Puts the words that the bytes spell into the room from `from` on, as far as they fit, and answers where they end.
+fn put_words(bytes: &[u8], words: &mut [u16], from: usize) -> usize
+    ensures { λ r. ⌜ r ≡ from + min (length (wordsIn (now (bytes .entry)))) (length (now (words .entry)) - from) ⌝ }
+    ensures { λ _. ⌜ now (words .exit) ≡ sets (now (words .entry)) from (wordsIn (now (bytes .entry))) ⌝ }
+{
     let mut i = 0;
     let mut at = from;
     while 1 < bytes.len() - i {
@@ -86,6 +94,8 @@ fn put_words(bytes: &[u8], words: &mut [u16], from: usize) -> usize {
     at
 }
 
-fn word(low: u8, high: u8) -> u16 {
+fn word(low: u8, high: u8) -> u16
+    ensures { λ r. ⌜ r ≡ wordOf low high ⌝ }
+{
     (high as u16) * 256 + (low as u16)
 }

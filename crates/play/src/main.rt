@@ -1,12 +1,13 @@
 // Plays lists on a screen of zeros: the picture goes to standard output, a line for each list to standard error.
 mod arguments; // what is asked for
 mod file; // reads a file, and the words of a list
+mod number; // a number as arguments and pages give it
 mod page; // the lists of a page
 mod palette; // the colour of a byte
 mod picture; // writes the screen
 mod report; // the lines on standard error
-mod text; // spans, items and numbers of a text
-mod turn; // runs the lists of a page in turn
+mod slices; // runs the lists of a page in turn
+mod span; // where something stands in a text or in a room
 
 use arguments::Form;
 use arguments::Given;
@@ -20,9 +21,11 @@ use page::with_list;
 use picture::write;
 use report::report;
 use report::usage;
-use text::Span;
-use text::bytes_of;
-use turn::turns;
+use slices::rounds;
+use span::Span;
+use span::bytes_of;
+ghost use mathlib.Core.Path.{_≡_};
+ghost use Prim.Native.Nat.{_*_};
 
 // Eight lists of 65,536 words.
 const WORDS: usize = 524288;
@@ -84,12 +87,14 @@ fn run(page: Page, names: &[u8], given: Given, words: &[u16], room: &mut [u8]) {
         return;
     }
     let screen = &mut room[0..dots];
-    let end = turns(words, screen, page);
+    let end = rounds(words, screen, page);
     if report(names, end) {
         write(screen, given.width, given.height);
     }
 }
 
-fn area(width: u32, height: u32) -> usize {
+fn area(width: u32, height: u32) -> usize
+    ensures { λ r. ⌜ r ≡ width * height ⌝ }
+{
     (width as usize) * (height as usize)
 }

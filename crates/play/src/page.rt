@@ -3,18 +3,20 @@ use crate::arguments::BUDGET;
 use crate::arguments::Given;
 use crate::file::Read;
 use crate::file::load_list;
+use crate::number::number;
 use crate::report::complain;
 use crate::report::refuse;
-use crate::text::Span;
-use crate::text::bytes_of;
-use crate::text::item;
-use crate::text::next;
-use crate::text::number;
+use crate::span::Span;
+use crate::span::bytes_of;
 use raster::frame::Pane;
 use rules::answer::Made;
 use rules::environment::Env;
-ghost use Prim.Native.Nat.{_≤_, _<_};
-ghost use lib.ListN.{length};
+use text::items::find;
+use text::items::item;
+ghost use mathlib.Core.Path.{_≡_};
+ghost use Prim.Native.Nat.{_<_};
+ghost use Rattle.play.specs.Panes.{hasNoList, hasFiveItems, paneOf};
+ghost use Rattle.play.specs.Pages.{refused as refusedPage, withPlaying};
 
 // A list in play: its environment, where its name and its words stand, what is left of its budget, its steps and its last number.
 pub struct Playing {
@@ -62,7 +64,9 @@ pub fn empty() -> Page {
     }
 }
 
-fn refused(page: Page) -> Page {
+fn refused(page: Page) -> Page
+    ensures { λ r. ⌜ r ≡ refusedPage page ⌝ }
+{
     let mut p = page;
     p.sound = false;
     p
@@ -73,7 +77,7 @@ pub fn page_of(text: &[u8], given: Given, words: &mut [u16]) -> Page {
     let mut page = empty();
     let mut from = 0;
     while from < text.len() {
-        let to = next(text, from, b'\n');
+        let to = find(text, from, b'\n');
         page = with_line(page, text, Span { from, to }, given, words);
         if !page.sound {
             return page;
@@ -92,9 +96,7 @@ fn with_some_list(page: Page) -> Page {
 }
 
 // The page with the list of a line more. An empty line has none, nor has one that begins with '#'.
-fn with_line(page: Page, text: &[u8], line: Span, given: Given, words: &mut [u16]) -> Page
-    requires { ⌜ line .from ≤ length (now text) ⌝ }
-{
+fn with_line(page: Page, text: &[u8], line: Span, given: Given, words: &mut [u16]) -> Page {
     let from = line.from;
     let s = bytes_of(text, line);
     if has_no_list(s) {
@@ -106,28 +108,34 @@ fn with_line(page: Page, text: &[u8], line: Span, given: Given, words: &mut [u16
     }
     let name = Span {
         from,
-        to: next(text, from, b' '),
+        to: find(text, from, b' '),
     };
     let mut g = given;
     g.pane = pane_of(s);
     with_list(page, text, name, g, words)
 }
 
-fn has_no_list(line: &[u8]) -> bool {
+fn has_no_list(line: &[u8]) -> bool
+    ensures { λ r. ⌜ r ≡ hasNoList (now (line .entry)) ⌝ }
+{
     if line.len() == 0 {
         return true;
     }
     line[0] == b'#'
 }
 
-fn has_five_items(line: &[u8]) -> bool {
+fn has_five_items(line: &[u8]) -> bool
+    ensures { λ r. ⌜ r ≡ hasFiveItems (now (line .entry)) ⌝ }
+{
     if item(line, 4).len() == 0 {
         return false;
     }
     item(line, 5).len() == 0
 }
 
-fn pane_of(line: &[u8]) -> Pane {
+fn pane_of(line: &[u8]) -> Pane
+    ensures { λ r. ⌜ r ≡ paneOf (now (line .entry)) ⌝ }
+{
     Pane {
         left: number(item(line, 1)),
         top: number(item(line, 2)),
@@ -180,6 +188,7 @@ fn fresh(given: Given) -> Made {
 
 fn with_playing(page: Page, playing: Playing) -> Page
     requires { ⌜ page .count < 8 ⌝ }
+    ensures { λ r. ⌜ r ≡ withPlaying playing page ⌝ }
 {
     let at = page.count;
     let mut p = page;

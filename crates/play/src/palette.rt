@@ -1,4 +1,6 @@
 // The colour of a byte: 004's default palettes, the one of 16 colours for 0 to 15 and the one of 256 above.
+ghost use mathlib.Core.Path.{_≡_};
+ghost use Rattle.play.specs.Colours.{rgb as rgbOf, of256, colourOf};
 
 pub struct Colour {
     pub red: u8,
@@ -6,11 +8,15 @@ pub struct Colour {
     pub blue: u8,
 }
 
-fn rgb(red: u8, green: u8, blue: u8) -> Colour {
+fn rgb(red: u8, green: u8, blue: u8) -> Colour
+    ensures { λ r. ⌜ r ≡ rgbOf red green blue ⌝ }
+{
     Colour { red, green, blue }
 }
 
-pub fn colour_of(byte: u8) -> Colour {
+pub fn colour_of(byte: u8) -> Colour
+    ensures { λ r. ⌜ r ≡ colourOf byte ⌝ }
+{
     match byte {
         0 => rgb(0, 0, 0), // black
         1 => rgb(0, 0, 170), // dark blue
@@ -38,7 +44,9 @@ const EIGHTHS: [u8; 8] = [0, 36, 73, 109, 146, 182, 219, 255];
 const QUARTERS: [u8; 4] = [0, 85, 170, 255];
 
 // Bits 7 and 6 are blue, 5 to 3 green, 2 to 0 red.
-fn of_256(byte: u8) -> Colour {
+fn of_256(byte: u8) -> Colour
+    ensures { λ r. ⌜ r ≡ of256 byte ⌝ }
+{
     let red = (byte % 8) as usize;
     let green = (byte / 8 % 8) as usize;
     let blue = (byte / 64) as usize;

@@ -1,7 +1,11 @@
 // Writes the screen as a picture, binary PPM.
 use crate::palette::colour_of;
 use libc::STDOUT_FILENO;
-ghost use Prim.Native.Nat.{_≤_, _<_};
+ghost use mathlib.Core.Path.{_≡_};
+ghost use Prim.Native.Nat.{_+_, _/_, _<_, min};
+ghost use lib.ListN.{length, take};
+ghost use lib.Seq.{sets};
+ghost use Rattle.play.specs.Colours.{painted};
 ghost use Rattle.io.specs.Counts.{Counts};
 
 pub fn write(screen: &[u8], width: u32, height: u32) {
@@ -38,7 +42,7 @@ fn write_chunk(dots: &[u8]) -> bool {
 
 fn chunk_end(from: usize, end: usize) -> usize
     requires { ⌜ from < end ⌝ }
-    ensures { λ r. ⌜ (from < r) × (r ≤ end) ⌝ }
+    ensures { λ r. ⌜ r ≡ min end (from + 16384) ⌝ }
 {
     if end - from < CHUNK {
         end
@@ -47,8 +51,10 @@ fn chunk_end(from: usize, end: usize) -> usize
     }
 }
 
-// Puts three bytes for each dot into the room, and answers where they end.
+// Puts three bytes for each dot into the room, as many as fit, and answers where they end.
 fn put_colours(dots: &[u8], room: &mut [u8]) -> usize
+    ensures { λ r. ⌜ r ≡ length (painted (take (length (now (room .entry)) / 3) (now (dots .entry)))) ⌝ }
+    ensures { λ _. ⌜ now (room .exit) ≡ sets (now (room .entry)) 0 (painted (take (length (now (room .entry)) / 3) (now (dots .entry)))) ⌝ }
     ensures { λ r. ⌜ Counts r (now (room .exit)) ⌝ }
 {
     let mut i = 0;

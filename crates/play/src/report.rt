@@ -2,7 +2,7 @@
 use crate::page::PLACES;
 use crate::page::Page;
 use crate::page::Playing;
-use crate::text::bytes_of;
+use crate::span::bytes_of;
 use libc::STDERR_FILENO;
 
 fn say(text: &[u8]) {

@@ -1,19 +1,21 @@
--- `play::file::put_words` meets its contract: two bytes are left behind with each turn.
-use mathlib.Core.Path.{_≡_}
-use Prim.Native.Nat.{_≤_, _-_}
+-- `play::file::put_words` meets its contract: what is still to be put, put, leaves what is asked.
+use Prim.Native.Nat.{_-_}
+use mathlib.Core.Path.{refl}
+use native.Mathlib.Omega.{arith}
 use lib.ListN.{length}
+use Rattle.play.proofs.Putting.{Puts, no-room, no-bytes, one-word}
 use borrow.Author.Needs.{needs}
 use Rattle.play.proofs.file.put_words.Statement.{statement}
 use Rattle.play.proofs.file.put_words.Tie as tie
 
 abbrev Inv-loop : tie.InvT-loop
-Inv-loop bytes words₀ from i₀ at₀ words i at = (i ≤ length bytes) × (length words ≡ length words₀)
+Inv-loop bytes words₀ from i₀ at₀ words i at = Puts bytes words₀ words from i at
 
 abbrev μ-loop : tie.MeasureT-loop
 μ-loop bytes words₀ from i₀ at₀ words i at = length bytes - i
 
 loop-holds : tie.Need-loop-holds Inv-loop μ-loop
-loop-holds c = search needs
+loop-holds c = record { inside = omega arith; long = refl; counted = refl; stored = refl }
 
 sub-loop : tie.Need-sub-loop Inv-loop μ-loop
 sub-loop c = search needs
@@ -22,7 +24,7 @@ same-length : tie.Need-same-length Inv-loop μ-loop
 same-length c = search needs
 
 returns : tie.Need-returns Inv-loop μ-loop
-returns c = search needs
+returns c = no-room (c .before .before .loop .inv) (c .if1 .taken)
 
 shared-slice-read-word : tie.Need-shared-slice-read-word Inv-loop μ-loop
 shared-slice-read-word c = search needs
@@ -52,13 +54,15 @@ loop-less : tie.Need-loop-less Inv-loop μ-loop
 loop-less c = search needs
 
 loop-again : tie.Need-loop-again Inv-loop μ-loop
-loop-again c = search needs
+loop-again c =
+    let e = c .before .before .before in
+    one-word (e .before .before .loop .inv) (e .before .loop-test .taken) (e .if1 .left) (c .word .ensures)
 
 same-length-2 : tie.Need-same-length-2 Inv-loop μ-loop
 same-length-2 c = search needs
 
 returns-2 : tie.Need-returns-2 Inv-loop μ-loop
-returns-2 c = search needs
+returns-2 c = no-bytes (c .before .loop .inv) (c .loop-test .left)
 
 pub put-words-spec : {M : Type 1} → statement M
 put-words-spec =

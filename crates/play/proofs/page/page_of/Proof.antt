@@ -1,7 +1,9 @@
 -- `play::page::page_of` meets its contract: each line begins behind the one before, and the room keeps its length.
 use mathlib.Core.Path.{_≡_}
 use Prim.Native.Nat.{_-_}
+use native.Mathlib.Omega.{arith}
 use lib.ListN.{length}
+use Rattle.text.proofs.Parting.{found-within}
 use borrow.Author.Needs.{needs}
 use Rattle.play.proofs.page.page_of.Statement.{statement}
 use Rattle.play.proofs.page.page_of.Tie as tie
@@ -18,8 +20,8 @@ empty-requires c κs = search needs
 loop-holds : tie.Need-loop-holds Inv-loop μ-loop
 loop-holds c = search needs
 
-next-requires : tie.Need-next-requires Inv-loop μ-loop
-next-requires c κs = search needs
+find-requires : tie.Need-find-requires Inv-loop μ-loop
+find-requires c κs = search needs
 
 with-line-requires : tie.Need-with-line-requires Inv-loop μ-loop
 with-line-requires c κs = search needs
@@ -31,7 +33,10 @@ returns : tie.Need-returns Inv-loop μ-loop
 returns c = search needs
 
 add-from : tie.Need-add-from Inv-loop μ-loop
-add-from c = search needs
+add-from c =
+    let f = c .before .before .before .before .before .before in
+    let l = f .before .before in
+    omega (arith, f .find .ensures, found-within 10 (l .loop .from) (l .before .before .before .before .args .text .now) (omega (arith, f .before .loop-test .taken)))
 
 loop-less : tie.Need-loop-less Inv-loop μ-loop
 loop-less c = search needs
@@ -56,7 +61,7 @@ page-of-spec =
     μ-loop
     empty-requires
     loop-holds
-    next-requires
+    find-requires
     with-line-requires
     same-length
     returns

@@ -1,21 +1,22 @@
--- `play::picture::put_colours` meets its contract: the room keeps its length, and what is written ends within it.
-use mathlib.Core.Path.{_≡_}
-use Prim.Native.Nat.{_≤_, _-_}
+-- `play::picture::put_colours` meets its contract: what is still to be put, put, leaves what is asked.
+use Prim.Native.Nat.{_-_}
+use mathlib.Core.Path.{refl}
 use native.Mathlib.Omega.{arith}
 use lib.ListN.{length, length-set}
-use borrow.Author.Needs.{needs}
 use Rattle.io.proofs.Counting.{counts}
+use Rattle.play.proofs.Putting.{Paints, full, all, one-dot}
+use borrow.Author.Needs.{needs}
 use Rattle.play.proofs.picture.put_colours.Statement.{statement}
 use Rattle.play.proofs.picture.put_colours.Tie as tie
 
 abbrev Inv-loop : tie.InvT-loop
-Inv-loop dots room₀ i₀ at₀ room i at = (i ≤ length dots) × (at ≤ length room) × (length room ≡ length room₀)
+Inv-loop dots room₀ i₀ at₀ room i at = Paints dots room₀ room i at
 
 abbrev μ-loop : tie.MeasureT-loop
 μ-loop dots room₀ i₀ at₀ room i at = length dots - i
 
 loop-holds : tie.Need-loop-holds Inv-loop μ-loop
-loop-holds c = search needs
+loop-holds c = record { inside = omega arith; place = omega arith; within = omega arith; long = refl; counted = omega arith; stored = refl }
 
 sub-if1 : tie.Need-sub-if1 Inv-loop μ-loop
 sub-if1 c = search needs
@@ -24,7 +25,10 @@ same-length : tie.Need-same-length Inv-loop μ-loop
 same-length c = search needs
 
 returns : tie.Need-returns Inv-loop μ-loop
-returns c = counts _ _ (search needs)
+returns c =
+    let l = c .before .before .loop .inv in
+    let r = full l (c .if1 .taken) in
+    (r .0, (r .1, counts _ _ (l .within)))
 
 shared-slice-read-colour-of : tie.Need-shared-slice-read-colour-of Inv-loop μ-loop
 shared-slice-read-colour-of c = search needs
@@ -57,13 +61,18 @@ loop-less : tie.Need-loop-less Inv-loop μ-loop
 loop-less c = search needs
 
 loop-again : tie.Need-loop-again Inv-loop μ-loop
-loop-again c = (omega arith, simp length-set (omega arith), simp length-set (omega arith))
+loop-again c =
+    let e = c .before .before in
+    one-dot (e .before .before .loop .inv) (e .before .loop-test .taken) (e .if1 .left) (c .colour-of .ensures)
 
 same-length-2 : tie.Need-same-length-2 Inv-loop μ-loop
 same-length-2 c = search needs
 
 returns-2 : tie.Need-returns-2 Inv-loop μ-loop
-returns-2 c = counts _ _ (search needs)
+returns-2 c =
+    let l = c .before .loop .inv in
+    let r = all l (c .loop-test .left) in
+    (r .0, (r .1, counts _ _ (l .within)))
 
 pub put-colours-spec : {M : Type 1} → statement M
 put-colours-spec =

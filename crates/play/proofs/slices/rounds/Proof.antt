@@ -1,10 +1,10 @@
--- `play::turn::turns` meets its contract: the slices are counted, and a round leaves the screen its length.
+-- `play::slices::rounds` meets its contract: the slices are counted, and a round leaves the screen its length.
 use mathlib.Core.Path.{_≡_}
 use Prim.Native.Nat.{_≤_, _-_}
 use lib.ListN.{length}
 use borrow.Author.Needs.{needs}
-use Rattle.play.proofs.turn.turns.Statement.{statement}
-use Rattle.play.proofs.turn.turns.Tie as tie
+use Rattle.play.proofs.slices.rounds.Statement.{statement}
+use Rattle.play.proofs.slices.rounds.Tie as tie
 
 abbrev Inv-loop : tie.InvT-loop
 Inv-loop words screen₀ p₀ n₀ screen p n = (n ≤ 1000) × (length screen ≡ length screen₀)
@@ -33,8 +33,8 @@ same-length c = search needs
 returns : tie.Need-returns Inv-loop μ-loop
 returns c = search needs
 
-pub turns-spec : {M : Type 1} → statement M
-turns-spec =
+pub rounds-spec : {M : Type 1} → statement M
+rounds-spec =
     tie.close
     (tie.spec
     Inv-loop

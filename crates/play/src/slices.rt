@@ -2,7 +2,7 @@
 use crate::page::PLACES;
 use crate::page::Page;
 use crate::page::Playing;
-use crate::text::Span;
+use crate::span::words_of;
 ghost use Prim.Native.Nat.{_≤_};
 
 // Opcodes in a slice, and slices in the largest budget.
@@ -11,7 +11,7 @@ const SLICE: u32 = 1_000;
 const SLICES: u32 = 1_000;
 
 // Each list to its end, to a stop, or to the end of its budget.
-pub fn turns(words: &[u16], screen: &mut [u8], page: Page) -> Page {
+pub fn rounds(words: &[u16], screen: &mut [u8], page: Page) -> Page {
     let mut p = page;
     let mut n = 0;
     while n < SLICES {
@@ -50,7 +50,7 @@ fn ran(words: &[u16], screen: &mut [u8], playing: Playing, budget: u32) -> Playi
 {
     let name = playing.name;
     let span = playing.words;
-    let answer = ovenlute::run_through(words_of(words, span), screen, playing.env, budget);
+    let answer = ovenlute::run(words_of(words, span), screen, playing.env, budget);
     let env = answer.env;
     Playing {
         env,
@@ -60,17 +60,4 @@ fn ran(words: &[u16], screen: &mut [u8], playing: Playing, budget: u32) -> Playi
         steps: std::num::wrapping_add_u32(playing.steps, answer.steps),
         number: answer.number,
     }
-}
-
-// The words of a span; none where it is not within the room.
-fn words_of(words: &[u16], span: Span) -> &[u16] {
-    let from = span.from;
-    let to = span.to;
-    if words.len() < to {
-        return &words[..0];
-    }
-    if to < from {
-        return &words[..0];
-    }
-    &words[from..to]
 }

@@ -1,10 +1,10 @@
--- `play::turn::round` meets its contract: the places are counted, and a slice leaves the screen its length.
+-- `play::slices::round` meets its contract: the places are counted, and a slice leaves the screen its length.
 use mathlib.Core.Path.{_≡_}
 use Prim.Native.Nat.{_≤_, _-_}
 use lib.ListN.{length}
 use borrow.Author.Needs.{needs}
-use Rattle.play.proofs.turn.round.Statement.{statement}
-use Rattle.play.proofs.turn.round.Tie as tie
+use Rattle.play.proofs.slices.round.Statement.{statement}
+use Rattle.play.proofs.slices.round.Tie as tie
 
 abbrev Inv-loop : tie.InvT-loop
 Inv-loop words screen₀ p₀ k₀ screen p k = (k ≤ 8) × (length screen ≡ length screen₀)

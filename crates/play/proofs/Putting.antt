@@ -1,0 +1,127 @@
+-- Words and colours are put one by one, as far as the room goes.
+use Prim.Native.Nat.{ℕ, suc, _+_, _-_, _*_, _/_, _<_, _≤_, min}
+use mathlib.Core.Path.{_≡_, refl, sym, ap, ap₂, _∙_}
+use mathlib.Core.List.{List, [], _∷_}
+use native.Mathlib.Numerals.{add-one}
+use native.Mathlib.Omega.{arith}
+use lib.ListN.{length, getD, take, drop, set, length-set, length-take, length-drop, drop-of-length-le}
+use lib.Seq.{sets, drop-cons, set-out, getD-take}
+use Rattle.play.specs.Words.{word, wordsIn}
+use Rattle.play.specs.declared.palette.Colour.{Colour}
+use Rattle.play.specs.Colours.{colourOf, painted}
+
+-- ---- stores past the end change nothing
+pub sets-out : (l : List ℕ) (i : ℕ) (vs : List ℕ) → length l ≤ i → sets l i vs ≡ l
+sets-out l i [] h = refl
+sets-out l i (v ∷ vs) h = let same = set-out l i v h in ap (λ (m : List ℕ). sets m (suc i) vs) same ∙ sets-out l (suc i) vs (omega arith)
+
+-- ---- two bytes a word
+pub two-on : (s : List ℕ) (i : ℕ) → 1 < length s - i → wordsIn (drop i s) ≡ word (getD s i 0) (getD s (i + 1) 0) ∷ wordsIn (drop (i + 2) s)
+unfolding wordsIn
+two-on s i h =
+    let at : i + 1 ≡ suc i = add-one i in
+    let on : suc (suc i) ≡ i + 2 = omega arith in
+    ap wordsIn (drop-cons s i 0 (omega arith))
+    ∙ ap (λ (l : List ℕ). wordsIn (getD s i 0 ∷ l)) (drop-cons s (suc i) 0 (omega arith))
+    ∙ ap (λ (j : ℕ). word (getD s i 0) (getD s j 0) ∷ wordsIn (drop (suc (suc i)) s)) (sym at)
+    ∙ ap (λ (j : ℕ). word (getD s i 0) (getD s (i + 1) 0) ∷ wordsIn (drop j s)) on
+
+few : (s : List ℕ) → length s ≤ 1 → wordsIn s ≡ []
+unfolding wordsIn
+few [] h = refl
+few (x ∷ []) h = refl
+few (x ∷ (y ∷ ys)) h = absurd (omega arith)
+
+pub none-left : (s : List ℕ) (i : ℕ) → length s - i ≤ 1 → wordsIn (drop i s) ≡ []
+none-left s i h = few (drop i s) (omega (arith, length-drop i s))
+
+pub record Puts (bytes words₀ words : List ℕ) (from i at : ℕ) : Type 0 where
+  pub inside : i ≤ length bytes
+  pub long : length words ≡ length words₀
+  pub counted : at + min (length (wordsIn (drop i bytes))) (length words₀ - at) ≡ from + min (length (wordsIn bytes)) (length words₀ - from)
+  pub stored : sets words at (wordsIn (drop i bytes)) ≡ sets words₀ from (wordsIn bytes)
+
+module _ {bytes words₀ words : List ℕ} {from i at : ℕ} (c : Puts bytes words₀ words from i at) where
+  pub no-room : length words ≤ at → (at ≡ from + min (length (wordsIn bytes)) (length words₀ - from)) × (words ≡ sets words₀ from (wordsIn bytes))
+  no-room h = (omega (arith, c .counted, c .long), sym (sets-out words at (wordsIn (drop i bytes)) h) ∙ c .stored)
+
+  pub no-bytes : length bytes - i ≤ 1 → (at ≡ from + min (length (wordsIn bytes)) (length words₀ - from)) × (words ≡ sets words₀ from (wordsIn bytes))
+  no-bytes h =
+      let none = none-left bytes i h in
+      (omega (arith, c .counted, ap length none), sym (ap (sets words at) none) ∙ c .stored)
+
+  pub one-word : 1 < length bytes - i → at < length words → {w : ℕ} → w ≡ word (getD bytes i 0) (getD bytes (i + 1) 0)
+      → Puts bytes words₀ (set words at w) from (i + 2) (at + 1)
+  one-word h l {w} e =
+      let opened = two-on bytes i h in
+      record {
+        inside = omega arith;
+        long = length-set words at w ∙ c .long;
+        counted = omega (arith, c .counted, c .long, ap length opened);
+        stored =
+            ap (λ (j : ℕ). sets (set words at w) j (wordsIn (drop (i + 2) bytes))) (add-one at)
+            ∙ ap (λ (v : ℕ). sets words at (v ∷ wordsIn (drop (i + 2) bytes))) e
+            ∙ sym (ap (sets words at) opened)
+            ∙ c .stored;
+      }
+
+-- ---- three bytes a dot
+abbrev pub fitting : List ℕ → List ℕ → List ℕ
+fitting dots room = take (length room / 3) dots
+
+pub record Paints (dots room₀ room : List ℕ) (i at : ℕ) : Type 0 where
+  pub inside : i ≤ length dots
+  pub place : at ≡ 3 * i
+  pub within : at ≤ length room
+  pub long : length room ≡ length room₀
+  pub counted : at + length (painted (drop i (fitting dots room₀))) ≡ length (painted (fitting dots room₀))
+  pub stored : sets room at (painted (drop i (fitting dots room₀))) ≡ sets room₀ 0 (painted (fitting dots room₀))
+
+module _ {dots room₀ room : List ℕ} {i at : ℕ} (c : Paints dots room₀ room i at) where
+  abbrev fits : List ℕ
+  fits = fitting dots room₀
+
+  done : length fits ≤ i → (at ≡ length (painted fits)) × (room ≡ sets room₀ 0 (painted fits))
+  unfolding painted
+  done h =
+      let none : painted (drop i fits) ≡ [] = ap painted (drop-of-length-le fits h) in
+      (omega (arith, c .counted, ap length none), sym (ap (sets room at) none) ∙ c .stored)
+
+  pub full : length room - at < 3 → (at ≡ length (painted fits)) × (room ≡ sets room₀ 0 (painted fits))
+  full h = done (omega (arith, length-take (length room₀ / 3) dots, c .place, c .long, c .within))
+
+  pub all : length dots ≤ i → (at ≡ length (painted fits)) × (room ≡ sets room₀ 0 (painted fits))
+  all h = done (omega (arith, length-take (length room₀ / 3) dots))
+
+  module _ (h : i < length dots) (l : 3 ≤ length room - at) {k : Colour} (e : k ≡ colourOf (getD dots i 0)) where
+    opened : painted (drop i fits) ≡ k .red ∷ (k .green ∷ (k .blue ∷ painted (drop (suc i) fits)))
+    unfolding painted
+    opened =
+        let inside : i < length room₀ / 3 = omega (arith, c .place, c .long) in
+        ap painted (drop-cons fits i 0 (omega (arith, length-take (length room₀ / 3) dots)))
+        ∙ ap (λ (x : Colour). x .red ∷ (x .green ∷ (x .blue ∷ painted (drop (suc i) fits)))) (ap colourOf (getD-take (length room₀ / 3) dots i 0 inside) ∙ sym e)
+
+    abbrev room' : List ℕ
+    room' = set (set (set room at (k .red)) (at + 1) (k .green)) (at + 2) (k .blue)
+
+    same-long : length room' ≡ length room
+    same-long = length-set (set (set room at (k .red)) (at + 1) (k .green)) (at + 2) (k .blue) ∙ length-set (set room at (k .red)) (at + 1) (k .green) ∙ length-set room at (k .red)
+
+    pub one-dot : Paints dots room₀ room' (i + 1) (at + 3)
+    one-dot =
+        let one : at + 1 ≡ suc at = add-one at in
+        let two : at + 2 ≡ suc (suc at) = omega arith in
+        let three : at + 3 ≡ suc (suc (suc at)) = omega arith in
+        let rest : painted (drop (i + 1) fits) ≡ painted (drop (suc i) fits) = ap (λ (j : ℕ). painted (drop j fits)) (add-one i) in
+        record {
+          inside = omega arith;
+          place = omega (arith, c .place);
+          within = omega (arith, same-long);
+          long = same-long ∙ c .long;
+          counted = omega (arith, c .counted, ap length rest, ap length opened);
+          stored =
+              ap₂ (λ (j : ℕ) (l : List ℕ). sets room' j l) three rest
+              ∙ ap₂ (λ (x y : ℕ). sets (set (set (set room at (k .red)) x (k .green)) y (k .blue)) (suc (suc (suc at))) (painted (drop (suc i) fits))) one two
+              ∙ sym (ap (sets room at) opened)
+              ∙ c .stored;
+        }

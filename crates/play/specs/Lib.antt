@@ -1,0 +1,7 @@
+-- What the contracts cite.
+pub mod Spans
+pub mod Numbers
+pub mod Panes
+pub mod Pages
+pub mod Words
+pub mod Colours
