@@ -15,7 +15,7 @@ use Rattle.text.specs.declared.number.Number.{Number}
 use Rattle.text.specs.declared.hexadecimal.Word.{Word}
 use Rattle.text.specs.declared.hexadecimal.Word.the-variants as Word
 use Rattle.desk.specs.declared.list.Listed.{Listed}
-use Rattle.desk.specs.Lists.{repeated, timesOf, Told, told, refused, put, putWord, readItem, unlessWrong, readItems}
+use Rattle.desk.specs.Lists.{repeated, timesOf, Loaded, loaded, refused, put, putWord, readItem, unlessWrong, readItems}
 use Rattle.desk.specs.declared.list.Times.{Times}
 use Rattle.desk.specs.declared.list.Times.the-variants as Times
 use Rattle.desk.specs.declared.fault.Outcome.{Outcome}
@@ -44,11 +44,11 @@ module _ (s : List ℕ) (l : 5 ≤ length s) where
       let behind : take (length s - 5) (drop 5 s) ≡ drop 5 s = take-all (length s - 5) (drop 5 s) (omega (arith, length-drop 5 s)) in
       ap repeated (r ∙ ap decimalOf behind) ∙ by-star true (eq-eqb (getD s 4 0) 42 e)
 
-abbrev pub toldOf : Listed → List ℕ → Told
-toldOf r room = told (r .words) (r .outcome) room
+abbrev pub loadedOf : Listed → List ℕ → Loaded
+loadedOf r room = loaded (r .words) (r .outcome) room
 
-pub refusal : {r : Listed} {f : Fault} (room : List ℕ) → r ≡ record { words = 0; outcome = Outcome.Wrong f } → toldOf r room ≡ refused f room
-refusal room e = ap (λ (r : Listed). toldOf r room) e
+pub refusal : {r : Listed} {f : Fault} (room : List ℕ) → r ≡ record { words = 0; outcome = Outcome.Wrong f } → loadedOf r room ≡ refused f room
+refusal room e = ap (λ (r : Listed). loadedOf r room) e
 
 pub refused-none : {r : Listed} {f : Fault} {n : ℕ} → r ≡ record { words = 0; outcome = Outcome.Wrong f } → r .words ≤ n
 refused-none e = let z = ap (λ (r : Listed). r .words) e in omega (arith, z)
@@ -58,16 +58,16 @@ module _ (times word : ℕ) (room : List ℕ) (n : ℕ) where
   unfolding put
   too-many h =
       sym
-      (ap (λ (t : Bool). cond t (refused TooMany room) (told (n + times) Outcome.Fine (sets room n (replicate times word)))) (lt-ltb (length room - n) times h))
+      (ap (λ (t : Bool). cond t (refused TooMany room) (loaded (n + times) Outcome.Fine (sets room n (replicate times word)))) (lt-ltb (length room - n) times h))
 
   pub puts : times ≤ length room - n → {room' : List ℕ} → room' ≡ sets room n (replicate ((n + times) - n) word)
-      → told (n + times) Outcome.Fine room' ≡ put times word room n
+      → loaded (n + times) Outcome.Fine room' ≡ put times word room n
   unfolding put
   puts h e =
       let all : (n + times) - n ≡ times = omega arith in
-      ap (told (n + times) Outcome.Fine) (e ∙ ap (λ (k : ℕ). sets room n (replicate k word)) all)
+      ap (loaded (n + times) Outcome.Fine) (e ∙ ap (λ (k : ℕ). sets room n (replicate k word)) all)
       ∙ sym
-      (ap (λ (t : Bool). cond t (refused TooMany room) (told (n + times) Outcome.Fine (sets room n (replicate times word)))) (le-ltb (length room - n) times h))
+      (ap (λ (t : Bool). cond t (refused TooMany room) (loaded (n + times) Outcome.Fine (sets room n (replicate times word)))) (le-ltb (length room - n) times h))
 
 module _ (item room : List ℕ) (n : ℕ) {w : Word} (p : w ≡ hexOf item) where
   pub no-word : w ≡ Word.Wrong → refused NoWord room ≡ readItem item room n
@@ -82,12 +82,12 @@ module _ (item room : List ℕ) (n : ℕ) {w : Word} (p : w ≡ hexOf item) wher
 
 -- ---- item by item
 module _ (is : List (List ℕ)) (k : ℕ) (room : List ℕ) (n : ℕ) where
-  pub none-left : length is ≤ k → readItems (drop k is) room n ≡ told n Outcome.Fine room
+  pub none-left : length is ≤ k → readItems (drop k is) room n ≡ loaded n Outcome.Fine room
   unfolding readItems
   none-left h = ap (λ (l : List (List ℕ)). readItems l room n) (drop-of-length-le is h)
 
-  module _ (h : k < length is) {item : List ℕ} (e : item ≡ getD is k []) {t : Told} (r : t ≡ readItem item room n) where
-    abbrev after : Told → Told
+  module _ (h : k < length is) {item : List ℕ} (e : item ≡ getD is k []) {t : Loaded} (r : t ≡ readItem item room n) where
+    abbrev after : Loaded → Loaded
     after t = unlessWrong (t .outcome) (readItems (drop (k + 1) is) (t .room) (t .words)) t
 
     opened : readItems (drop k is) room n ≡ after t

@@ -29,41 +29,41 @@ unfoldable pub timesOf : List ℕ → Times
 timesOf item = cond (ltb (length item) 5) (Times.Are 1) (cond (eqb (getD item 4 0) 42) (repeated (decimalOf (drop 5 item))) (Times.Wrong NoWord))
 
 -- how many words of the room are the list, whether the line could be read, and the room
-pub record Told : Type 0 where
+pub record Loaded : Type 0 where
   pub words : ℕ
   pub outcome : Outcome
   pub room : List ℕ
 
-abbrev pub told : ℕ → Outcome → List ℕ → Told
-told n o r = record { words = n; outcome = o; room = r }
+abbrev pub loaded : ℕ → Outcome → List ℕ → Loaded
+loaded n o r = record { words = n; outcome = o; room = r }
 
-abbrev pub refused : Fault → List ℕ → Told
-refused f room = told 0 (Outcome.Wrong f) room
+abbrev pub refused : Fault → List ℕ → Loaded
+refused f room = loaded 0 (Outcome.Wrong f) room
 
 -- a word so often behind the first n words of the room
-unfoldable pub put : ℕ → ℕ → List ℕ → ℕ → Told
+unfoldable pub put : ℕ → ℕ → List ℕ → ℕ → Loaded
 put times word room n =
-    cond (ltb (length room - n) times) (refused TooMany room) (told (n + times) Outcome.Fine (sets room n (replicate times word)))
+    cond (ltb (length room - n) times) (refused TooMany room) (loaded (n + times) Outcome.Fine (sets room n (replicate times word)))
 
-abbrev pub putTimes : Times → ℕ → List ℕ → ℕ → Told
+abbrev pub putTimes : Times → ℕ → List ℕ → ℕ → Loaded
 putTimes (Times.Are times) word room n = put times word room n
 putTimes (Times.Wrong f) word room n = refused f room
 
-abbrev pub putWord : Word → Times → List ℕ → ℕ → Told
+abbrev pub putWord : Word → Times → List ℕ → ℕ → Loaded
 putWord (Word.Is word) t room n = putTimes t word room n
 putWord Word.Wrong t room n = refused NoWord room
 
-abbrev pub readItem : List ℕ → List ℕ → ℕ → Told
+abbrev pub readItem : List ℕ → List ℕ → ℕ → Loaded
 readItem item room n = putWord (hexOf item) (timesOf item) room n
 
 -- further items, unless one was wrong
-abbrev pub unlessWrong : Outcome → Told → Told → Told
+abbrev pub unlessWrong : Outcome → Loaded → Loaded → Loaded
 unlessWrong Outcome.Fine further t = further
 unlessWrong (Outcome.Wrong f) further t = t
 
-unfoldable pub readItems : List (List ℕ) → List ℕ → ℕ → Told
-readItems [] room n = told n Outcome.Fine room
+unfoldable pub readItems : List (List ℕ) → List ℕ → ℕ → Loaded
+readItems [] room n = loaded n Outcome.Fine room
 readItems (i ∷ is) room n = let t = readItem i room n in unlessWrong (t .outcome) (readItems is (t .room) (t .words)) t
 
-abbrev pub listed : List ℕ → List ℕ → Told
+abbrev pub listed : List ℕ → List ℕ → Loaded
 listed line room = readItems (drop 1 (items line)) room 0

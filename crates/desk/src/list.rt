@@ -12,7 +12,7 @@ ghost use mathlib.Core.Path.{_≡_};
 ghost use Prim.Native.Nat.{_≤_, _-_};
 ghost use lib.ListN.{length, replicate};
 ghost use lib.Seq.{sets};
-ghost use Rattle.desk.specs.Lists.{timesOf, told, put as puts, readItem, listed};
+ghost use Rattle.desk.specs.Lists.{timesOf, loaded, put as puts, readItem, listed};
 
 // The list's room: one word more than a list may have.
 pub const WORDS: usize = 65537;
@@ -25,7 +25,7 @@ pub struct Listed {
 
 // The items of a line behind its first item, 'list'.
 pub fn read_list(line: &[u8], room: &mut [u16]) -> Listed
-    ensures { λ r. ⌜ told (r .words) (r .outcome) (now (room .exit)) ≡ listed (now (line .entry)) (now (room .entry)) ⌝ }
+    ensures { λ r. ⌜ loaded (r .words) (r .outcome) (now (room .exit)) ≡ listed (now (line .entry)) (now (room .entry)) ⌝ }
     ensures { λ r. ⌜ r .words ≤ length (now (room .entry)) ⌝ }
 {
     let items = count(line);
@@ -49,7 +49,7 @@ pub fn read_list(line: &[u8], room: &mut [u16]) -> Listed
 // Puts the item's word behind the first `words` words, as often as the item says.
 fn read_item(item: &[u8], room: &mut [u16], words: usize) -> Listed
     requires { ⌜ words ≤ length (now room) ⌝ }
-    ensures { λ r. ⌜ told (r .words) (r .outcome) (now (room .exit)) ≡ readItem (now (item .entry)) (now (room .entry)) words ⌝ }
+    ensures { λ r. ⌜ loaded (r .words) (r .outcome) (now (room .exit)) ≡ readItem (now (item .entry)) (now (room .entry)) words ⌝ }
     ensures { λ r. ⌜ r .words ≤ length (now (room .entry)) ⌝ }
 {
     let Word::Is(word) = word_of(item) else {
@@ -73,7 +73,7 @@ fn wrong(fault: Fault) -> Listed
 
 fn put(room: &mut [u16], words: usize, times: usize, word: u16) -> Listed
     requires { ⌜ words ≤ length (now room) ⌝ }
-    ensures { λ r. ⌜ told (r .words) (r .outcome) (now (room .exit)) ≡ puts times word (now (room .entry)) words ⌝ }
+    ensures { λ r. ⌜ loaded (r .words) (r .outcome) (now (room .exit)) ≡ puts times word (now (room .entry)) words ⌝ }
     ensures { λ r. ⌜ r .words ≤ length (now (room .entry)) ⌝ }
 {
     if room.len() - words < times {
