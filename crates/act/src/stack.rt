@@ -7,6 +7,7 @@ ghost use Rattle.act.specs.Lent.{numbers, indexed};
 
 pub type Stack = [u32; 16];
 
+// As a run begins.
 pub fn numbers_of(stack: [WordIndex; 16]) -> Stack
     ensures { λ r. ⌜ (r ≡ numbers stack) × (length r ≡ 16) ⌝ }
 {
@@ -30,6 +31,7 @@ pub fn numbers_of(stack: [WordIndex; 16]) -> Stack
     ]
 }
 
+// As it ends.
 pub fn indices_of(stack: Stack) -> [WordIndex; 16]
     ensures { λ r. ⌜ r ≡ indexed stack ⌝ }
 {
@@ -62,6 +64,7 @@ pub fn stacked_at(stack: &Stack, depth: u32) -> WordIndex
     WordIndex(stack[at])
 }
 
+// Another one there.
 pub fn stack_at(stack: &mut Stack, depth: u32, i: WordIndex)
     requires { ⌜ (depth < 16) × (length (now stack) ≡ 16) ⌝ }
     ensures { λ _. ⌜ now (stack .exit) ≡ set (now (stack .entry)) depth (i .0) ⌝ }
