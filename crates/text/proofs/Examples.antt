@@ -6,7 +6,7 @@ use Rattle.text.specs.Items.{onto, items, same, placeIn}
 use Rattle.text.specs.Number.{digit, reading, decimalOf, atMost, negated, signedOf}
 use Rattle.text.specs.declared.number.Number.the-variants.{Is, Wrong}
 use Rattle.text.specs.declared.number.Flaw.the-variants.{Foreign, Large}
-use Rattle.text.specs.Hexadecimal.{hexDigit, spelt, hexOf}
+use Rattle.text.specs.Hexadecimal.{hexDigit, spelt, hexOf, lastDigit, hexDigits}
 use Rattle.text.specs.declared.hexadecimal.Word.the-variants as Word
 
 -- 'a  bc': the second item is empty
@@ -46,3 +46,7 @@ least = (refl, refl)
 words : (hexOf (bytes "01AF*3") ≡ Word.Is 0x01af) × (hexOf (bytes "01aF") ≡ Word.Wrong)
 unfolding digit hexDigit spelt hexOf
 words = (refl, refl)
+
+written : hexDigits 0x01af ≡ bytes "01AF"
+unfolding lastDigit
+written = refl

@@ -1,5 +1,7 @@
+pub mod Joining
 pub mod Parting
 pub mod Tables
 mod Reading
 mod Spelling
+pub mod Writing
 mod Examples

@@ -1,7 +1,7 @@
 -- A word's four hexadecimal digits, the highest first.
-use Prim.Native.Nat.{ℕ, _+_, _*_, _-_}
+use Prim.Native.Nat.{ℕ, _+_, _*_, _-_, _/_, _%_}
 use mathlib.Core.Bool.{Bool, cond, _&&_, _||_}
-use mathlib.Core.List.{List}
+use mathlib.Core.List.{List, [], _∷_}
 use lib.Dec.{ltb, leb}
 use lib.ListN.{length, getD}
 use Rattle.text.specs.declared.hexadecimal.Word.{Word}
@@ -25,3 +25,11 @@ spelt a b c d =
 -- what the first four bytes spell
 unfoldable pub hexOf : List ℕ → Word
 hexOf s = cond (ltb (length s) 4) Wrong (spelt (getD s 0 0) (getD s 1 0) (getD s 2 0) (getD s 3 0))
+
+-- the last digit of a number
+unfoldable pub lastDigit : ℕ → ℕ
+lastDigit n = cond (ltb (n % 16) 10) (n % 16 + 48) (n % 16 + 55)
+
+-- how a word is written
+abbrev pub hexDigits : ℕ → List ℕ
+hexDigits w = lastDigit (w / 4096) ∷ lastDigit (w / 256) ∷ lastDigit (w / 16) ∷ lastDigit w ∷ []

@@ -2,7 +2,7 @@
 use crate::number::is_digit;
 ghost use mathlib.Core.Path.{_≡_};
 ghost use mathlib.Core.Bool.{cond};
-ghost use Rattle.text.specs.Hexadecimal.{hexDigit, worth as worthOf, hexOf};
+ghost use Rattle.text.specs.Hexadecimal.{hexDigit, worth as worthOf, hexOf, lastDigit, hexDigits};
 
 // The word that digits spell, or something else stands there.
 pub enum Word {
@@ -38,4 +38,26 @@ fn worth(b: u8) -> u32
         return 65536;
     }
     (b - 55) as u32
+}
+
+// The four digits of a word, the highest first.
+pub fn digits_of(word: u16) -> [u8; 4]
+    ensures { λ r. ⌜ r ≡ hexDigits word ⌝ }
+{
+    [
+        last_digit(word / 4096),
+        last_digit(word / 256),
+        last_digit(word / 16),
+        last_digit(word),
+    ]
+}
+
+fn last_digit(n: u16) -> u8
+    ensures { λ r. ⌜ r ≡ lastDigit n ⌝ }
+{
+    let d = (n % 16) as u8;
+    if d < 10 {
+        return d + b'0';
+    }
+    d + 55
 }
