@@ -10,11 +10,14 @@ use rules::environment::Env;
 use rules::environment::Registers;
 use run::bounds::pane_fits;
 use run::bounds::size_fits;
+use wording::Words;
+use wording::words_for;
 ghost use mathlib.Core.Path.{_≡_};
 ghost use Prim.Native.Nat.{_≤_};
 ghost use Rattle.rules.specs.Environment.{held};
 ghost use Rattle.rules.specs.Door.{Promise};
 ghost use Rattle.rules.specs.Fresh as Fresh;
+ghost use Rattle.wording.specs.Wording.{textOf, wordsOf};
 
 // Variables 0, position (0, 0), clip mode 0, window from the top left to (x, y), counter 0, stack empty, running.
 fn blank(bounds: Bounds, colour: u8, x: u32, y: u32) -> Env
@@ -124,4 +127,12 @@ pub extern "C" fn ovenlute_fresh(width: u32, height: u32, pane: Pane) -> Made
     ensures { λ m. ⌜ Fresh.Promise (record { width = width; height = height; pane = pane }) m ⌝ }
 {
     fresh(width, height, pane)
+}
+
+// The words for a number, for C.
+#[no_mangle]
+pub extern "C" fn ovenlute_text(number: u8) -> Words
+    ensures { λ r. ⌜ r ≡ wordsOf (textOf number) ⌝ }
+{
+    words_for(number)
 }

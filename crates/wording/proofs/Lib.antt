@@ -1,0 +1,3 @@
+mod Padding
+mod Others
+pub mod Terminated
