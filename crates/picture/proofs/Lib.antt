@@ -1,0 +1,5 @@
+mod Putting
+mod Summing
+mod Storing
+mod Chunks
+mod Examples

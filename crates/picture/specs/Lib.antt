@@ -1,0 +1,4 @@
+-- What the contracts cite.
+pub mod Colours
+pub mod Checksums
+pub mod Png
