@@ -1,0 +1,8 @@
+-- What the contracts cite.
+pub mod Views
+pub mod Spans
+pub mod Lights
+pub mod Means
+pub mod Puts
+pub mod Cells
+pub mod Lines
