@@ -1,3 +1,0 @@
-mod Lines
-mod Parts
-mod Putting

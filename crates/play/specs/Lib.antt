@@ -1,7 +1,3 @@
 -- What the contracts cite.
-pub mod Spans
-pub mod Numbers
-pub mod Panes
 pub mod Pages
-pub mod Words
-pub mod Colours
+pub mod Ends

@@ -1,29 +1,30 @@
-// Plays lists on a screen of zeros: the picture goes to standard output, a line for each list to standard error.
-mod arguments; // what is asked for
-mod file; // reads a file, and the words of a list
-mod number; // a number as arguments and pages give it
+// Plays lists on a screen of zeros: the picture goes to standard output, a line for each list to standard error, and how it
+// ended to descriptor 3.
+mod end; // how it ended
+mod output; // writes the picture
 mod page; // the lists of a page
-mod palette; // the colour of a byte
-mod picture; // writes the screen
-mod report; // the lines on standard error
+mod report; // a line for each list
 mod slices; // runs the lists of a page in turn
-mod span; // where something stands in a text or in a room
 
-use arguments::Form;
-use arguments::Given;
-use arguments::asked;
-use file::Read;
-use file::load_page;
+use end::End;
+use end::end_of;
+use end::tell;
+use errand::arguments::Given;
+use errand::arguments::Wish;
+use errand::arguments::asked;
+use errand::file::Read;
+use errand::file::load_page;
+use errand::span::Span;
+use errand::span::bytes_of;
+use output::write;
 use page::Page;
 use page::empty;
+use page::fresh;
 use page::page_of;
 use page::with_list;
-use picture::write;
+use report::refuse;
 use report::report;
-use report::usage;
 use slices::rounds;
-use span::Span;
-use span::bytes_of;
 ghost use mathlib.Core.Path.{_≡_};
 ghost use Prim.Native.Nat.{_*_};
 
@@ -35,62 +36,85 @@ const SCREEN: usize = 4194304;
 
 fn main() {
     let mut words = [0u16; WORDS];
-    play(&mut words);
+    tell(play(&mut words));
 }
 
-fn play(words: &mut [u16; WORDS]) {
+fn play(words: &mut [u16; WORDS]) -> End {
     let form = asked();
     match form {
-        Form::List(given) => play_list(given, words),
-        Form::Page(given) => play_page(given, words),
-        Form::Neither => usage(),
+        Wish::List(given) => play_list(given, words),
+        Wish::Page(given) => play_page(given, words),
+        Wish::Wrong => End::Wrong,
     }
 }
 
-fn play_list(given: Given, words: &mut [u16]) {
-    let mut path = io::buffer();
-    let n = os::arg(1, &mut path);
-    let page = with_list(empty(), &path, Span { from: 0, to: n }, given, words);
-    show(page, &path, given, words);
+fn play_list(given: Given, words: &mut [u16]) -> End {
+    let mut room = io::buffer();
+    let n = os::arg(given.first, &mut room);
+    let made = fresh(given);
+    let number = made.number;
+    if number != 0 {
+        refuse(b"play", number);
+        return End::Nothing;
+    }
+    let name = Span { from: 0, to: n };
+    let path = bytes_of(&room, name);
+    let page = with_list(empty(), path, path, name, made.env, given.budget, words);
+    show(page, &room, given, words)
 }
 
-fn play_page(given: Given, words: &mut [u16]) {
-    let mut path = io::buffer();
-    let n = os::arg(2, &mut path);
+fn play_page(given: Given, words: &mut [u16]) -> End {
+    let made = fresh(given);
+    let number = made.number;
+    if number != 0 {
+        refuse(b"play", number);
+        return End::Nothing;
+    }
     let mut room = io::buffer();
-    let Read::To(end) = load_page(&path[..n], &mut room) else {
-        return;
+    let n = os::arg(given.first, &mut room);
+    let mut text = io::buffer();
+    let path = bytes_of(&room, Span { from: 0, to: n });
+    let Read::To(end) = load_page(path, &mut text) else {
+        return End::Nothing;
     };
-    let text = bytes_of(&room, Span { from: 0, to: end });
-    let page = page_of(text, given, words);
-    show(page, text, given, words);
+    let lines = bytes_of(&text, Span { from: 0, to: end });
+    let page = page_of(lines, path, given, words);
+    show(page, lines, given, words)
 }
 
 // Draws a page of which no list was refused.
-fn show(page: Page, names: &[u8], given: Given, words: &[u16]) {
-    if page.sound {
-        let mut room = [0u8; SCREEN];
-        draw(page, names, given, words, &mut room);
+fn show(page: Page, names: &[u8], given: Given, words: &[u16]) -> End {
+    if !page.sound {
+        return End::Nothing;
     }
+    let mut room = [0u8; SCREEN];
+    draw(page, names, given, words, &mut room)
 }
 
 // A callee that takes a reference to an array asks for no proof of its length.
-fn draw(page: Page, names: &[u8], given: Given, words: &[u16], room: &mut [u8; SCREEN]) {
-    run(page, names, given, words, room);
+fn draw(page: Page, names: &[u8], given: Given, words: &[u16], room: &mut [u8; SCREEN]) -> End {
+    run(page, names, given, words, room)
 }
 
 // Runs the lists on as much of the room as the screen is, tells what each answers, and writes the picture where one has
 // ended or still runs.
-fn run(page: Page, names: &[u8], given: Given, words: &[u16], room: &mut [u8]) {
+fn run(page: Page, names: &[u8], given: Given, words: &[u16], room: &mut [u8]) -> End {
     let dots = area(given.width, given.height);
     if room.len() < dots {
-        return;
+        return End::Nothing;
     }
     let screen = &mut room[0..dots];
-    let end = rounds(words, screen, page);
-    if report(names, end) {
-        write(screen, given.width, given.height);
+    let last = rounds(words, screen, page);
+    let end = end_of(report(names, words, last));
+    match end {
+        End::Nothing => end,
+        _ => written(write(screen, given), end),
     }
+}
+
+// Where the picture could not be written there is none.
+fn written(whole: bool, end: End) -> End {
+    if whole { end } else { End::Nothing }
 }
 
 fn area(width: u32, height: u32) -> usize

@@ -1,21 +1,24 @@
 // The lists of a page.
-use crate::arguments::BUDGET;
-use crate::arguments::Given;
-use crate::file::Read;
-use crate::file::load_list;
-use crate::number::number;
-use crate::report::complain;
 use crate::report::refuse;
-use crate::span::Span;
-use crate::span::bytes_of;
+use errand::arguments::BUDGET;
+use errand::arguments::Given;
+use errand::file::Read;
+use errand::file::load_list;
+use errand::line::has_no_list;
+use errand::line::is_sound;
+use errand::line::pane_of;
+use errand::path::beside;
+use errand::path::label;
+use errand::path::place;
+use errand::say::complain;
+use errand::span::Span;
+use errand::span::bytes_of;
 use raster::frame::Pane;
 use rules::answer::Made;
 use rules::environment::Env;
 use text::items::find;
-use text::items::item;
 ghost use mathlib.Core.Path.{_≡_};
 ghost use Prim.Native.Nat.{_<_};
-ghost use Rattle.play.specs.Panes.{hasNoList, hasFiveItems, paneOf};
 ghost use Rattle.play.specs.Pages.{refused as refusedPage, withPlaying};
 
 // A list in play: its environment, where its name and its words stand, what is left of its budget, its steps and its last number.
@@ -73,110 +76,134 @@ fn refused(page: Page) -> Page
 }
 
 // The page that the lines of a text make.
-pub fn page_of(text: &[u8], given: Given, words: &mut [u16]) -> Page {
+pub fn page_of(text: &[u8], path: &[u8], given: Given, words: &mut [u16]) -> Page {
     let mut page = empty();
     let mut from = 0;
+    let mut number = 0;
     while from < text.len() {
         let to = find(text, from, b'\n');
-        page = with_line(page, text, Span { from, to }, given, words);
+        number = std::num::wrapping_add_u32(number, 1);
+        page = with_line(page, text, Span { from, to }, path, number, given, words);
         if !page.sound {
             return page;
         }
         from = to + 1;
     }
-    with_some_list(page)
+    with_some_list(page, path)
 }
 
-fn with_some_list(page: Page) -> Page {
+fn with_some_list(page: Page, path: &[u8]) -> Page {
     if page.count == 0 {
-        complain(b"play", b"a page without a list");
+        complain(path, b"a page without a list");
         return refused(page);
     }
     page
 }
 
-// The page with the list of a line more. An empty line has none, nor has one that begins with '#'.
-fn with_line(page: Page, text: &[u8], line: Span, given: Given, words: &mut [u16]) -> Page {
-    let from = line.from;
+// The page with the list of line `number` more.
+fn with_line(
+    page: Page,
+    text: &[u8],
+    line: Span,
+    path: &[u8],
+    number: u32,
+    given: Given,
+    words: &mut [u16],
+) -> Page {
     let s = bytes_of(text, line);
     if has_no_list(s) {
         return page;
     }
-    if !has_five_items(s) {
-        complain(s, b"a line is LIST LEFT TOP RIGHT BOTTOM");
+    let mut room = io::buffer();
+    let n = place(path, number, &mut room);
+    let at = bytes_of(&room, Span { from: 0, to: n });
+    if !is_sound(s, at) {
         return refused(page);
     }
+    let mut g = given;
+    g.pane = pane_of(s);
+    let made = fresh(g);
+    let refusal = made.number;
+    if refusal != 0 {
+        refuse(at, refusal);
+        return refused(page);
+    }
+    let from = line.from;
     let name = Span {
         from,
         to: find(text, from, b' '),
     };
-    let mut g = given;
-    g.pane = pane_of(s);
-    with_list(page, text, name, g, words)
+    with_file(
+        page,
+        at,
+        path,
+        bytes_of(text, name),
+        name,
+        made.env,
+        given.budget,
+        words,
+    )
 }
 
-fn has_no_list(line: &[u8]) -> bool
-    ensures { λ r. ⌜ r ≡ hasNoList (now (line .entry)) ⌝ }
-{
-    if line.len() == 0 {
-        return true;
-    }
-    line[0] == b'#'
+// The page with the list of that name more, which is looked for beside the page.
+fn with_file(
+    page: Page,
+    at: &[u8],
+    path: &[u8],
+    name: &[u8],
+    span: Span,
+    env: Env,
+    budget: u32,
+    words: &mut [u16],
+) -> Page {
+    let mut file = io::buffer();
+    let mut told = io::buffer();
+    let n = beside(path, name, &mut file);
+    let m = label(at, name, &mut told);
+    with_list(
+        page,
+        bytes_of(&file, Span { from: 0, to: n }),
+        bytes_of(&told, Span { from: 0, to: m }),
+        span,
+        env,
+        budget,
+        words,
+    )
 }
 
-fn has_five_items(line: &[u8]) -> bool
-    ensures { λ r. ⌜ r ≡ hasFiveItems (now (line .entry)) ⌝ }
-{
-    if item(line, 4).len() == 0 {
-        return false;
-    }
-    item(line, 5).len() == 0
-}
-
-fn pane_of(line: &[u8]) -> Pane
-    ensures { λ r. ⌜ r ≡ paneOf (now (line .entry)) ⌝ }
-{
-    Pane {
-        left: number(item(line, 1)),
-        top: number(item(line, 2)),
-        right: number(item(line, 3)),
-        bottom: number(item(line, 4)),
-    }
-}
-
-// The page with one list more, in the file whose name the span is.
-pub fn with_list(page: Page, names: &[u8], name: Span, given: Given, words: &mut [u16]) -> Page {
-    let path = bytes_of(names, name);
+// The page with one list more, in a file; `told` is what a message calls it, and `name` where its name stands for the report.
+pub fn with_list(
+    page: Page,
+    path: &[u8],
+    told: &[u8],
+    name: Span,
+    env: Env,
+    budget: u32,
+    words: &mut [u16],
+) -> Page {
     if PLACES <= page.count {
-        complain(path, b"a page has 8 lists at most");
-        return refused(page);
-    }
-    let made = fresh(given);
-    let number = made.number;
-    if number != 0 {
-        refuse(path, number);
+        complain(told, b"a page has 8 lists at most");
         return refused(page);
     }
     let from = page.used;
-    let Read::To(to) = load_list(path, words, from) else {
+    let Read::To(to) = load_list(path, told, words, from) else {
         return refused(page);
     };
-    let env = made.env;
     with_playing(
         page,
         Playing {
             env,
             name,
             words: Span { from, to },
-            left: given.budget,
+            left: budget,
             steps: 0,
-            number,
+            number: 0,
         },
     )
 }
 
 // A fresh environment; 14 where the budget is too large.
-fn fresh(given: Given) -> Made {
+pub fn fresh(given: Given) -> Made {
     let mut made = ovenlute::fresh(given.width, given.height, given.pane);
     if made.number == 0 {
         if BUDGET < given.budget {

@@ -1,104 +1,94 @@
 // The lines on standard error.
+use crate::end::Ends;
+use crate::end::none_yet;
+use crate::end::with_number;
 use crate::page::PLACES;
 use crate::page::Page;
 use crate::page::Playing;
-use crate::span::bytes_of;
+use errand::say::say;
+use errand::span::Span;
+use errand::span::bytes_of;
+use errand::span::words_of;
 use libc::STDERR_FILENO;
-
-fn say(text: &[u8]) {
-    io::write_all(STDERR_FILENO, text);
-}
-
-pub fn usage() {
-    say(
-        b"usage: play LIST WIDTH HEIGHT [LEFT TOP RIGHT BOTTOM] [BUDGET], or play page PAGE WIDTH HEIGHT [BUDGET]\n",
-    );
-}
-
-pub fn complain(name: &[u8], what: &[u8]) {
-    say(name);
-    say(b": ");
-    say(what);
-    say(b"\n");
-}
+use text::hexadecimal::digits_of;
+use wording::words_for;
 
 // The number that a list is refused with, and what it means.
 pub fn refuse(name: &[u8], number: u8) {
-    say(name);
-    say(b": ");
-    tell(number);
+    tell(name, number);
     say(b"\n");
 }
 
-// A line for each list; answers whether one has ended or still runs.
-pub fn report(names: &[u8], page: Page) -> bool {
-    let mut seen = false;
+// A line for each list; answers how they ended.
+pub fn report(names: &[u8], words: &[u16], page: Page) -> Ends {
+    let mut ends = none_yet();
     let mut k = 0;
     while k < PLACES {
         if page.count <= k {
-            return seen;
+            return ends;
         }
         let playing = page.lists[k];
-        line(bytes_of(names, playing.name), playing);
-        if playing.number < 2 {
-            seen = true;
-        }
+        line(
+            bytes_of(names, playing.name),
+            words_of(words, playing.words),
+            playing,
+        );
+        ends = with_number(ends, playing.number);
         k += 1;
     }
-    seen
+    ends
 }
 
-fn line(name: &[u8], playing: Playing) {
-    say(name);
-    say(b": ");
-    tell(playing.number);
-    count(b": steps ", playing.steps);
-    count(b", counter ", playing.env.registers.counter.0);
+fn line(name: &[u8], list: &[u16], playing: Playing) {
+    let counter = playing.env.registers.counter.0;
+    tell(name, playing.number);
+    if playing.number == 21 {
+        tell_word(list, counter);
+    }
+    say(b": steps ");
+    decimal(playing.steps);
+    say(b", counter ");
+    tell_index(counter);
     say(b"\n");
 }
 
-fn count(what: &[u8], n: u32) {
-    say(what);
+fn decimal(n: u32) {
     io::print_decimal(STDERR_FILENO, n as u64);
 }
 
-fn tell(number: u8) {
+fn hexadecimal(word: u16) {
+    let digits = digits_of(word);
+    say(&digits);
+}
+
+// The word that is no opcode.
+fn tell_word(list: &[u16], index: u32) {
+    let at = index as usize;
+    if at < list.len() {
+        say(b": ");
+        hexadecimal(list[at]);
+    }
+}
+
+// A word index, 0 to 65,536, as sources have it, and in decimal.
+fn tell_index(index: u32) {
+    if 65535 < index {
+        say(b"1");
+    }
+    hexadecimal((index % 65536) as u16);
+    say(b" (");
+    decimal(index);
+    say(b")");
+}
+
+// NAME: NUMBER, what it means.
+fn tell(name: &[u8], number: u8) {
+    say(name);
+    say(b": ");
     io::print_decimal(STDERR_FILENO, number as u64);
     say(b", ");
-    if number < 20 {
-        tell_call(number);
-    } else {
-        tell_opcode(number);
-    }
-}
-
-// What is said of a whole call.
-fn tell_call(number: u8) {
-    match number {
-        0 => say(b"the list has ended"),
-        1 => say(b"the budget is used up, the list still runs"),
-        10 => say(b"the width or the height is not 1 to 2,048"),
-        11 => say(b"the screen's bytes are not width x height"),
-        12 => say(b"the pane is empty or not within the screen"),
-        13 => say(b"the list is above 65,536 words"),
-        14 => say(b"the budget is not 0 to 1,000,000"),
-        _ => say(b"unknown"),
-    }
-}
-
-// What is said of the opcode at the counter.
-fn tell_opcode(number: u8) {
-    match number {
-        20 => say(b"the counter is past the list's end"),
-        21 => say(b"no opcode"),
-        22 => say(b"the list ends inside the opcode"),
-        23 => say(b"a variable above 63"),
-        24 => say(b"a mode, line type or condition that is not allowed"),
-        25 => say(b"a coordinate, offset or position outside -32,768 to 32,767"),
-        26 => say(b"the divisor is zero"),
-        27 => say(b"a target that is not allowed"),
-        28 => say(b"a call with 16 returns stacked"),
-        29 => say(b"a return with none stacked"),
-        _ => say(b"unknown"),
-    }
+    let words = words_for(number);
+    let to = words.length as usize;
+    let text = words.text;
+    say(bytes_of(&text, Span { from: 0, to }));
 }

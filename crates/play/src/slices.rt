@@ -2,7 +2,7 @@
 use crate::page::PLACES;
 use crate::page::Page;
 use crate::page::Playing;
-use crate::span::words_of;
+use errand::span::words_of;
 ghost use Prim.Native.Nat.{_≤_};
 
 // Opcodes in a slice, and slices in the largest budget.

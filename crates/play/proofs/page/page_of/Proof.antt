@@ -9,10 +9,10 @@ use Rattle.play.proofs.page.page_of.Statement.{statement}
 use Rattle.play.proofs.page.page_of.Tie as tie
 
 abbrev Inv-loop : tie.InvT-loop
-Inv-loop text given words₀ page₀ from₀ words page from = length words ≡ length words₀
+Inv-loop text path given words₀ page₀ from₀ number₀ words page from number = length words ≡ length words₀
 
 abbrev μ-loop : tie.MeasureT-loop
-μ-loop text given words₀ page₀ from₀ words page from = length text - from
+μ-loop text path given words₀ page₀ from₀ number₀ words page from number = length text - from
 
 empty-requires : tie.Need-empty-requires Inv-loop μ-loop
 empty-requires c κs = search needs
@@ -22,6 +22,9 @@ loop-holds c = search needs
 
 find-requires : tie.Need-find-requires Inv-loop μ-loop
 find-requires c κs = search needs
+
+wrapping-add-u32-requires : tie.Need-wrapping-add-u32-requires Inv-loop μ-loop
+wrapping-add-u32-requires c κs = search needs
 
 with-line-requires : tie.Need-with-line-requires Inv-loop μ-loop
 with-line-requires c κs = search needs
@@ -34,9 +37,9 @@ returns c = search needs
 
 add-from : tie.Need-add-from Inv-loop μ-loop
 add-from c =
-    let f = c .before .before .before .before .before .before in
+    let f = c .before .before .before .before .before .before .before in
     let l = f .before .before in
-    omega (arith, f .find .ensures, found-within 10 (l .loop .from) (l .before .before .before .before .args .text .now) (omega (arith, f .before .loop-test .taken)))
+    omega (arith, f .find .ensures, found-within 10 (l .loop .from) (l .before .before .before .before .before .args .text .now) (omega (arith, f .before .loop-test .taken)))
 
 loop-less : tie.Need-loop-less Inv-loop μ-loop
 loop-less c = search needs
@@ -62,6 +65,7 @@ page-of-spec =
     empty-requires
     loop-holds
     find-requires
+    wrapping-add-u32-requires
     with-line-requires
     same-length
     returns

@@ -5,10 +5,13 @@ use Rattle.play.proofs.report.report.Statement.{statement}
 use Rattle.play.proofs.report.report.Tie as tie
 
 abbrev Inv-loop : tie.InvT-loop
-Inv-loop names page seen₀ k₀ seen k = k ≤ 8
+Inv-loop names words page ends₀ k₀ ends k = k ≤ 8
 
 abbrev μ-loop : tie.MeasureT-loop
-μ-loop names page seen₀ k₀ seen k = 8 - k
+μ-loop names words page ends₀ k₀ ends k = 8 - k
+
+none-yet-requires : tie.Need-none-yet-requires Inv-loop μ-loop
+none-yet-requires c κs = search needs
 
 loop-holds : tie.Need-loop-holds Inv-loop μ-loop
 loop-holds c = search needs
@@ -25,8 +28,14 @@ element-copy-out-playing c = search needs
 bytes-of-requires : tie.Need-bytes-of-requires Inv-loop μ-loop
 bytes-of-requires c κs = search needs
 
+words-of-requires : tie.Need-words-of-requires Inv-loop μ-loop
+words-of-requires c κs = search needs
+
 line-requires : tie.Need-line-requires Inv-loop μ-loop
 line-requires c κs = search needs
+
+with-number-requires : tie.Need-with-number-requires Inv-loop μ-loop
+with-number-requires c κs = search needs
 
 add-k : tie.Need-add-k Inv-loop μ-loop
 add-k c = search needs
@@ -46,12 +55,15 @@ report-spec =
     (tie.spec
     Inv-loop
     μ-loop
+    none-yet-requires
     loop-holds
     returns
     mul-playing
     element-copy-out-playing
     bytes-of-requires
+    words-of-requires
     line-requires
+    with-number-requires
     add-k
     loop-less
     loop-again

@@ -1,0 +1,4 @@
+mod Lines
+mod Parts
+mod Putting
+mod Paths

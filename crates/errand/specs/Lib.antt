@@ -1,0 +1,6 @@
+-- What the contracts cite.
+pub mod Spans
+pub mod Numbers
+pub mod Panes
+pub mod Words
+pub mod Paths
