@@ -1,5 +1,5 @@
 # The benchmark for a machine that the kit does not compile for: the module that rattle hands its clang, turned to the
-# machine and compiled there, and the C sides by the same clang. Sourced by run, which has set `out`, behind tools/c/kit.sh.
+# machine and compiled there, and the C sides by the same clang. Sourced by run, which has taken a room, behind tools/c/kit.sh.
 # MACHINE, CC and START name another machine's kind, linker and emulator, to try this without one.
 machine=${MACHINE:-$(uname -m)}
 target=$machine-unknown-linux-gnu
@@ -16,16 +16,16 @@ start() {
 
 # A toolchain like the kit's, but for a clang that keeps a copy of the module it is given.
 listening_toolchain() {
-    mkdir -p "$out/toolchain/bin"
-    ln -s "$tools"/* "$out/toolchain/" 2>/dev/null || :
-    ln -s "$tools"/bin/* "$out/toolchain/bin/"
-    rm "$out/toolchain/bin/clang"
+    mkdir -p "$room/toolchain/bin"
+    ln -s "$tools"/* "$room/toolchain/" 2>/dev/null || :
+    ln -s "$tools"/bin/* "$room/toolchain/bin/"
+    rm "$room/toolchain/bin/clang"
     {
         echo '#!/bin/sh'
-        echo "cp module.bc '$out/module.bc'"
+        echo "cp module.bc '$room/module.bc'"
         echo "exec '$tools/bin/clang' \"\$@\""
-    } >"$out/toolchain/bin/clang"
-    chmod +x "$out/toolchain/bin/clang"
+    } >"$room/toolchain/bin/clang"
+    chmod +x "$room/toolchain/bin/clang"
 }
 
 # The module of ovenlute: the crate is proved again, over the libraries that tools/archive/run has proved.
@@ -38,8 +38,8 @@ module() {
     "$own/bin/rattle" build --crate-name ovenlute crates/ovenlute/src/lib.rt "$@" \
         -L dependency=target/rlib -L "dependency=$own/rlib" \
         --antt-project "$own/../../logic/antt-project.json" --logic-built "$own/logic-built" \
-        --toolchain "$out/toolchain" --crate-type staticlib -o "$out/listened.a" >"$out/module.log" 2>&1 || {
-        cat "$out/module.log" >&2
+        --toolchain "$room/toolchain" --crate-type staticlib -o "$room/listened.a" >"$room/module.log" 2>&1 || {
+        cat "$room/module.log" >&2
         return 1
     }
 }
@@ -48,12 +48,12 @@ module() {
 box_for_this_machine() {
     module
     "$tools/bin/clang" --target=x86_64-unknown-linux-gnu -O0 -Xclang -disable-llvm-passes -S -emit-llvm -x ir \
-        "$out/module.bc" -o "$out/module.ll"
+        "$room/module.bc" -o "$room/module.ll"
     sed -e 's/^target triple = .*/target triple = "'"$target"'"/' -e '/^target datalayout = /d' \
         -e 's/"target-cpu"="[^"]*"//; s/"probe-stack"="[^"]*"//' -e 's/@ovenlute_fresh(/@box_fresh(/' \
-        "$out/module.ll" >"$out/native.ll"
-    "$tools/bin/clang" --target="$target" -O3 -fPIC -c -x ir "$out/native.ll" -o "$out/box.o"
-    compile tools/bench/fresh.c "$out/fresh.o"
-    "$tools/bin/llvm-ar" rc "$out/box.a" "$out/box.o" "$out/fresh.o"
-    box=$out/box.a
+        "$room/module.ll" >"$room/native.ll"
+    "$tools/bin/clang" --target="$target" -O3 -fPIC -c -x ir "$room/native.ll" -o "$room/box.o"
+    compile tools/bench/fresh.c "$room/fresh.o"
+    "$tools/bin/llvm-ar" rc "$room/box.a" "$room/box.o" "$room/fresh.o"
+    box=$room/box.a
 }

@@ -1,10 +1,34 @@
-# The kit's clang, linker and emulator for the scripts that build C programs. Sourced at the repository's top.
+# What the scripts share: a room that goes with them, and the kit's clang, linker and emulator. Sourced at the repository's top.
+command -v rt >/dev/null 2>&1 || {
+    echo "$0: there is no rt on the path: put the Rattle kit's bin folder there" >&2
+    exit 2
+}
 target=x86_64-unknown-linux-gnu
 rt=$(readlink -f "$(command -v rt)")
-own=${RATTLE_HOME:-$(dirname "$(dirname "$rt")")}/on/$(uname -m)
+kit=${RATTLE_HOME:-$(dirname "$(dirname "$rt")")}
+own=$kit/on/$(uname -m)
 tools=$own/toolchain
 emulator=$tools/bin/qemu-x86_64
 [ -x "$emulator" ] || emulator=
+
+# take_room: a temporary folder, $room, that is removed when the script ends, also where it is interrupted
+prover=
+take_room() {
+    room=$(mktemp -d)
+    trap 'leave_room' EXIT
+    trap 'exit 129' HUP
+    trap 'exit 130' INT
+    trap 'exit 143' TERM
+}
+
+# The prover that tools/progress.sh started, if there is one, ends with it.
+leave_room() {
+    if [ -n "$prover" ]; then
+        kill -s TERM -- "-$prover" 2>/dev/null || :
+        wait "$prover" 2>/dev/null || :
+    fi
+    rm -rf "$room"
+}
 
 # compile SOURCE OBJECT [FLAG...]
 compile() {

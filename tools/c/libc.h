@@ -12,6 +12,8 @@ void *memset(void *to, int byte, size_t bytes);
 char *strchr(const char *text, int letter);
 size_t strlen(const char *text);
 long read(int file, void *to, size_t bytes);
+long write(int file, const void *from, size_t bytes);
+int fflush(void *all);
 unsigned long long strtoull(const char *text, char **end, int base);
 
 /* ---- Linux on x86-64 ---- */
