@@ -1,30 +1,50 @@
-/* Ovenlute: a proved player of AFGIS display lists. Plain C99; link with libovenlute.a. */
+/* Ovenlute: a proved player of AFGIS display lists. C99 and C++; link with libovenlute.a (tools/archive/run makes it, x86-64).
+   docs/OPCODES.md has what a list may say, examples/ a panel to begin with. */
 #ifndef OVENLUTE_H
 #define OVENLUTE_H
 
 #include <stddef.h>
 #include <stdint.h>
 
-/* The numbers that come back. */
-enum {
-    OVENLUTE_ENDED = 0,          /* the list has ended; or a fresh environment was made */
-    OVENLUTE_BUDGET = 1,         /* the budget is used up, the list still runs: call again */
-    OVENLUTE_BAD_SIZE = 10,      /* width or height outside 1 to 2,048: nothing done */
-    OVENLUTE_BAD_SCREEN = 11,    /* screen bytes not equal to width x height: nothing done */
-    OVENLUTE_BAD_FIELD = 12,     /* another field of the environment out of range: nothing done */
-    OVENLUTE_LONG_LIST = 13,     /* list above 65,536 words: nothing done */
-    OVENLUTE_LARGE_BUDGET = 14,  /* budget above 1,000,000: nothing done */
-    OVENLUTE_PAST_END = 20,      /* counter at or past the list's end */
-    OVENLUTE_NO_OPCODE = 21,     /* a word that is no opcode */
+#ifdef __cplusplus
+extern "C" {
+#endif
+
+/* Raised with every change of a struct below. An environment that was kept from another version is to be made anew. */
+#define OVENLUTE_VERSION 1
+
+/* The limits. */
+#define OVENLUTE_MOST_WORDS 65536     /* of a list */
+#define OVENLUTE_MOST_STEPS 1000000   /* of a call: the largest budget */
+#define OVENLUTE_MOST_SIDE 2048       /* of a screen, across and down */
+#define OVENLUTE_VARIABLES 64
+#define OVENLUTE_RETURNS 16           /* the most that are stacked */
+
+/* The numbers that come back; each comment is what ovenlute_text says of it. 10 to 14 are of a call: nothing is done, and
+   environment and screen are as they were. 20 to 29 are of an opcode: it was not carried out and changed nothing, those before
+   it stand, and the environment is stopped for good: it answers this number again. */
+enum ovenlute_number {
+    OVENLUTE_ENDED = 0,          /* the list has ended */
+    OVENLUTE_BUDGET = 1,         /* the budget is used up, the list still runs */
+    OVENLUTE_BAD_SIZE = 10,      /* the width or the height is not 1 to 2,048 */
+    OVENLUTE_BAD_SCREEN = 11,    /* the screen's bytes are not width x height */
+    OVENLUTE_BAD_FIELD = 12,     /* the pane is empty or not within the screen, or another field is out of its range */
+    OVENLUTE_LONG_LIST = 13,     /* the list is above 65,536 words */
+    OVENLUTE_LARGE_BUDGET = 14,  /* the budget is above 1,000,000 */
+    OVENLUTE_PAST_END = 20,      /* the counter is at or past the list's end */
+    OVENLUTE_NO_OPCODE = 21,     /* no opcode */
     OVENLUTE_CUT = 22,           /* the list ends inside the opcode */
-    OVENLUTE_NO_VARIABLE = 23,   /* a variable named or implied above 63 */
-    OVENLUTE_NOT_ALLOWED = 24,   /* mode, line type or condition not allowed */
-    OVENLUTE_OUT_OF_RANGE = 25,  /* coordinate, offset or new position outside -32,768 to 32,767 */
-    OVENLUTE_ZERO_DIVISOR = 26,  /* divisor zero */
-    OVENLUTE_BAD_TARGET = 27,    /* target not allowed */
-    OVENLUTE_STACK_FULL = 28,    /* call with 16 returns stacked */
-    OVENLUTE_STACK_EMPTY = 29    /* return with none stacked */
+    OVENLUTE_NO_VARIABLE = 23,   /* a variable above 63 */
+    OVENLUTE_NOT_ALLOWED = 24,   /* a mode, line type or condition that is not allowed */
+    OVENLUTE_OUT_OF_RANGE = 25,  /* a coordinate, offset or position outside -32,768 to 32,767 */
+    OVENLUTE_ZERO_DIVISOR = 26,  /* the divisor is zero */
+    OVENLUTE_BAD_TARGET = 27,    /* a target that is not allowed */
+    OVENLUTE_STACK_FULL = 28,    /* a call with 16 returns stacked */
+    OVENLUTE_STACK_EMPTY = 29    /* a return with none stacked */
 };
+
+/* The state of an environment: one of these, or the number that it was stopped with, 20 to 29. */
+enum ovenlute_state { OVENLUTE_STATE_RUNNING = 0, OVENLUTE_STATE_ENDED = 1 };
 
 /* Columns left to right and rows top to bottom, both ends inside. */
 struct ovenlute_pane {
@@ -37,11 +57,12 @@ struct ovenlute_bounds {
     struct ovenlute_pane pane;
 };
 
+/* Each -32,768 to 32,767. */
 struct ovenlute_dot {
     int32_t x, y;
 };
 
-/* The clip window, both corners inside. */
+/* The clip window, both corners inside; each -32,768 to 32,767. */
 struct ovenlute_window {
     int32_t x0, y0, x1, y1;
 };
@@ -54,14 +75,14 @@ struct ovenlute_registers {
     uint32_t counter;       /* program counter: a word index, 0 to 65,536 */
     uint32_t depth;         /* returns stacked, 0 to 16 */
     uint8_t colour;         /* foreground colour */
-    uint8_t state;          /* 0 running, 1 ended, 20 to 29 stopped with that number */
+    uint8_t state;          /* enum ovenlute_state, or 20 to 29 */
 };
 
 struct ovenlute_env {
     struct ovenlute_bounds bounds;
     struct ovenlute_registers registers;
-    int32_t variables[64];
-    uint32_t stack[16];     /* word indices; past depth nothing counts */
+    int32_t variables[OVENLUTE_VARIABLES];
+    uint32_t stack[OVENLUTE_RETURNS];     /* word indices; past depth nothing counts */
 };
 
 struct ovenlute_made {
@@ -74,12 +95,35 @@ struct ovenlute_done {
     uint32_t steps;         /* opcodes carried out in this call */
 };
 
-/* A fresh environment; 0, or 10 for a bad size, 12 for a bad pane. */
+struct ovenlute_words {
+    uint8_t length;
+    char text[95];          /* the words and zeros behind them, at least one: a C string */
+};
+
+/* Any of the three may be called from several threads at once on different environments and screens: nothing is kept between
+   calls but what is lent. Lists that share a screen take turns. None allocates, and none needs more than 2 KiB of stack. */
+
+/* A fresh environment for a screen of that size and a pane in it: variables 0, position (0, 0), colour 15, clip mode 0, window
+   the whole screen, counter 0, running. Numbers: 0; 10 for a bad size; 12 for a bad pane, size first. With 10 and 12 env is all
+   zeros, and a run over it answers 10. */
 struct ovenlute_made ovenlute_fresh(uint32_t width, uint32_t height, struct ovenlute_pane pane);
 
-/* Runs a list of 16-bit words on a screen of one byte per pixel, row by row from the top left, with the
-   environment changed in place: at most `budget` opcodes, 0 to 1,000,000. */
+/* Runs a list of 16-bit words on a screen of one byte a pixel, row by row from the top left, with the environment changed in
+   place: at most `budget` opcodes, 0 to 1,000,000. Numbers: 0, 1, 10 to 14, 20 to 29.
+   - 1: call again with the same list to go on. A budget counts opcodes and not time: an opcode that clears a screen of
+     2,048 x 2,048 sets four million bytes, so a host that has other things to do gives small budgets.
+   - 10 to 14: nothing is done, steps is 0.
+   - 20 to 29: the list is stopped; ovenlute_text has the words, env->registers.counter the index of the opcode at fault.
+   List, screen and environment may not overlap. Only bytes inside the pane are written; the environment is written in any case,
+   also where the call is refused, then with what it was. With length 0 a list or a screen may be NULL; env may not. */
 struct ovenlute_done ovenlute_run(const uint16_t *list, size_t words, uint8_t *screen, size_t bytes,
                                   struct ovenlute_env *env, uint32_t budget);
+
+/* The words for a number that comes back. */
+struct ovenlute_words ovenlute_text(uint8_t number);
+
+#ifdef __cplusplus
+}
+#endif
 
 #endif

@@ -1,6 +1,6 @@
 /*
- * Document 01's fourteen cases with their variants, request T-02's, a line that is mostly outside, and the numbers 10 to 14,
- * through the C face of the box. Each answer is checked whole: number, steps, every field of the environment, every byte.
+ * The fourteen cases of docs/RULES.md with their variants, request T-02's, a line that is mostly outside, the numbers 10 to 14, and
+ * what the header says of NULL and of its limits, through the C face of the box. Each answer is checked whole: number, steps, every field of the environment, every byte.
  */
 
 #include "libc.h"
@@ -330,12 +330,39 @@ static void check_door_calls(void)
     check_door("the state before the budget", &stopped, 1, BYTES, 0, OVENLUTE_OUT_OF_RANGE);
 }
 
+/* Nothing is read or written through a pointer with length 0. */
+static void check_null(void)
+{
+    struct ovenlute_env env;
+    uint8_t screen[BYTES] = { 0 };
+
+    fresh_env(&env, whole_pane);
+    check("no screen at NULL", ovenlute_run(NULL, 0, NULL, 0, &env, 1).number == OVENLUTE_BAD_SCREEN ? NULL : "another number");
+    check("a list of no words at NULL",
+          ovenlute_run(NULL, 0, screen, BYTES, &env, 1).number == OVENLUTE_PAST_END ? NULL : "another number");
+}
+
+/* The limits of the header are the box's: one more is refused. */
+static void check_limits(void)
+{
+    struct ovenlute_pane pane = { 0, 0, OVENLUTE_MOST_SIDE - 1, OVENLUTE_MOST_SIDE - 1 };
+    struct ovenlute_env env;
+
+    fresh_env(&env, whole_pane);
+    check("the largest side", ovenlute_fresh(OVENLUTE_MOST_SIDE, OVENLUTE_MOST_SIDE, pane).number ? "refused" : NULL);
+    check_door("a word too many", &env, OVENLUTE_MOST_WORDS + 1, BYTES, 1, OVENLUTE_LONG_LIST);
+    check_door("a step too many", &env, 1, BYTES, OVENLUTE_MOST_STEPS + 1, OVENLUTE_LARGE_BUDGET);
+    check("the state of a fresh environment", env.registers.state == OVENLUTE_STATE_RUNNING ? NULL : "another state");
+}
+
 int main(void)
 {
     for (size_t i = 0; i < sizeof tests / sizeof tests[0]; i++)
         run_test(&tests[i]);
     check_fresh_calls();
     check_door_calls();
+    check_null();
+    check_limits();
     printf("%d cases, %d failed\n", checked, failed);
     return failed != 0;
 }

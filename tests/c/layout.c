@@ -47,3 +47,9 @@ _Static_assert(offsetof(struct ovenlute_made, env) == 4, "made.env");
 _Static_assert(sizeof(struct ovenlute_done) == 8, "done");
 _Static_assert(offsetof(struct ovenlute_done, number) == 0, "done.number");
 _Static_assert(offsetof(struct ovenlute_done, steps) == 4, "done.steps");
+
+_Static_assert(sizeof(struct ovenlute_words) == 96, "words");
+_Static_assert(offsetof(struct ovenlute_words, length) == 0, "words.length");
+_Static_assert(offsetof(struct ovenlute_words, text) == 1, "words.text");
+
+_Static_assert(OVENLUTE_VERSION == 1, "the version that these sizes and offsets are of");
