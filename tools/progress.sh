@@ -42,6 +42,7 @@ proves() {
     shift
     began=$(date +%s) told=0 finished=0
     chmod 711 "$room"
+    : >"$room/log"
     TMPDIR=$room setsid rt "$@" >"$room/log" 2>&1 9<&- &
     prover=$!
     while kill -0 "$prover" 2>/dev/null; do
@@ -65,7 +66,10 @@ tell_progress() {
         case $line in
         'rt: must-fail '* | *' proved ('* | *' NOT PROVED'*) finished=$((finished + 1)) ;;
         esac
-        [ -t 2 ] || echo "$(so_far): ${line#rt: }" >&2
+        case $line in
+        *' (unchanged since it was last proved)') ;;
+        *) [ -t 2 ] || echo "$(so_far): ${line#rt: }" >&2 ;;
+        esac
     done <"$room/lines"
     [ ! -t 2 ] || printf '\r\033[K%.*s' "$(($(columns) - 1))" "$(so_far)$(in_work)" >&2
 }
