@@ -7,7 +7,7 @@ use Rattle.terminal.specs.declared.cell.Depth.the-variants.{Direct, Cube
 use Rattle.terminal.specs.Views.{view, viewOf}
 use Rattle.terminal.specs.Spans.{spanOf}
 use Rattle.terminal.specs.Lights.{rootUpTo, rootOf}
-use Rattle.terminal.specs.Puts.{decimal}
+use Rattle.terminal.specs.Decimals.{decimal}
 use Rattle.terminal.specs.Cells.{level, cube, paint, upperHalfBlock, cell}
 
 smaller : viewOf 640 400 80 24 ≡ view 640 400 76 48

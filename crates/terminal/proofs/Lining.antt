@@ -9,10 +9,10 @@ use Rattle.text.specs.Bytes.{bytes}
 use Rattle.picture.specs.declared.palette.Colour.{Colour}
 use Rattle.terminal.specs.declared.cell.Depth.{Depth}
 use Rattle.terminal.specs.declared.fit.View.{View}
-use Rattle.terminal.specs.Puts.{Puts}
+use Rattle.text.specs.Puts.{Puts}
 use Rattle.terminal.specs.Cells.{paint, upperHalfBlock, cell, lineEnd}
 use Rattle.terminal.specs.Lines.{dotOf, cells, line}
-use Rattle.terminal.proofs.Putting.{and-then}
+use Rattle.text.proofs.Joining.{and-then}
 use Rattle.terminal.proofs.Painting.{thirteen-bytes}
 
 few-bytes : (d : Depth) (upper lower : Colour) → length (cell d upper lower) ≤ 39

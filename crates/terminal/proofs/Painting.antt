@@ -8,7 +8,8 @@ use Rattle.text.specs.Bytes.{bytes}
 use Rattle.picture.specs.declared.palette.Colour.{Colour}
 use Rattle.terminal.specs.declared.cell.Depth.{Depth}
 use Rattle.terminal.specs.declared.cell.Depth.the-variants.{Direct, Cube}
-use Rattle.terminal.specs.Puts.{Puts, decimal}
+use Rattle.text.specs.Puts.{Puts}
+use Rattle.terminal.specs.Decimals.{decimal}
 use Rattle.terminal.specs.Cells.{cube, direct, paint}
 use Rattle.terminal.proofs.Putting.{three-digits}
 

@@ -1,33 +1,20 @@
--- Bytes are put one behind the other.
+-- The room that is left behind bytes, and the digits of a byte.
 use Prim.Native.Nat.{ℕ, suc, _+_, _/_, _<_, _≤_}
 use mathlib.Core.Path.{_≡_, refl, sym, ap, ap₂, _∙_}
 use mathlib.Core.Bool.{Bool, true, false, cond}
-use mathlib.Core.List.{List, [], _∷_, _++_}
+use mathlib.Core.List.{List, [], _∷_}
 use native.Mathlib.Numerals.{add-one}
 use native.Mathlib.Omega.{arith}
 use borrow.Author.Tests.{lt-ltb, le-ltb}
 use lib.Dec.{ltb}
-use lib.ListN.{length, getD, drop, set, length-append, length-set, drop-of-length-le}
-use lib.Seq.{sets, drop-cons, length-sets}
-use Rattle.text.proofs.Joining.{behind}
-use Rattle.terminal.specs.Puts.{Puts, digit, decimal}
+use lib.ListN.{length, set}
+use lib.Seq.{sets}
+use Rattle.text.proofs.Joining.{same-long}
+use Rattle.text.specs.Puts.{Puts}
+use Rattle.terminal.specs.Decimals.{digit, decimal}
 
-module _ {s l m : List ℕ} {at to : ℕ} (p : Puts s l at m to) where
-  pub same-long : length m ≡ length l
-  same-long = ap length (p .stored) ∙ length-sets l at s
-
-  pub room-left : (k n : ℕ) → length s ≤ k → at + (k + n) ≤ length l → to + n ≤ length m
-  room-left k n h r = omega (arith, same-long, p .place)
-
-  pub and-then : {t n : List ℕ} {end : ℕ} → Puts t m to n end → Puts (s ++ t) l at n end
-  and-then {t} q = record {
-    stored =
-        q .stored
-        ∙ ap (λ (x : List ℕ). sets x to t) (p .stored)
-        ∙ ap (λ (j : ℕ). sets (sets l at s) j t) (p .place)
-        ∙ behind l at s t;
-    place = omega (arith, q .place, p .place, length-append s t);
-  }
+pub room-left : {s l m : List ℕ} {at to : ℕ} → Puts s l at m to → (k n : ℕ) → length s ≤ k → at + (k + n) ≤ length l → to + n ≤ length m
+room-left p k n h r = omega (arith, same-long p, p .place)
 
 -- ---- the digits of a byte
 module _ (n : ℕ) where

@@ -3,6 +3,6 @@ pub mod Views
 pub mod Spans
 pub mod Lights
 pub mod Means
-pub mod Puts
+pub mod Decimals
 pub mod Cells
 pub mod Lines

@@ -1,12 +1,12 @@
 // The bytes of a character: the upper half block, with the upper dot's colour on the lower dot's.
-use crate::put::put_bytes;
 use crate::put::put_number;
 use picture::palette::Colour;
+use text::join::put_whole;
 ghost use mathlib.Core.Path.{_≡_};
 ghost use mathlib.Core.List.{_++_};
 ghost use Prim.Native.Nat.{_+_, _≤_};
 ghost use lib.ListN.{length};
-ghost use Rattle.terminal.specs.Puts.{Puts};
+ghost use Rattle.text.specs.Puts.{Puts};
 ghost use Rattle.terminal.specs.Cells.{level as levelOf, cube as cubeOf, direct, paint, cell, lineEnd};
 
 // How many colours the terminal has: 24 bits each, or 256.
@@ -21,7 +21,7 @@ pub fn put_cell(upper: Colour, lower: Colour, depth: Depth, room: &mut [u8], at:
 {
     let a = put_colour(b"\x1b[38;", upper, depth, room, at);
     let b = put_colour(b";48;", lower, depth, room, a);
-    put_bytes(b"m\xe2\x96\x80", room, b)
+    put_whole(b"m\xe2\x96\x80", room, b)
 }
 
 // The colours as they were, and a line feed.
@@ -29,7 +29,7 @@ pub fn put_line_end(room: &mut [u8], at: usize) -> usize
     requires { ⌜ at + 5 ≤ length (now room) ⌝ }
     ensures { λ r. ⌜ Puts lineEnd (now (room .entry)) at (now (room .exit)) r ⌝ }
 {
-    put_bytes(b"\x1b[0m\n", room, at)
+    put_whole(b"\x1b[0m\n", room, at)
 }
 
 // A colour behind some bytes.
@@ -37,7 +37,7 @@ fn put_colour(lead: &[u8], colour: Colour, depth: Depth, room: &mut [u8], at: us
     requires { ⌜ at + (length (now lead) + 13) ≤ length (now room) ⌝ }
     ensures { λ r. ⌜ Puts (now (lead .entry) ++ paint depth colour) (now (room .entry)) at (now (room .exit)) r ⌝ }
 {
-    let behind = put_bytes(lead, room, at);
+    let behind = put_whole(lead, room, at);
     put_paint(colour, depth, room, behind)
 }
 
@@ -61,7 +61,7 @@ fn put_direct(colour: Colour, room: &mut [u8], at: usize) -> usize
 }
 
 // The number of the nearest colour of the 6 x 6 x 6.
-pub fn cube(colour: Colour) -> u8
+fn cube(colour: Colour) -> u8
     ensures { λ r. ⌜ r ≡ cubeOf colour ⌝ }
 {
     16 + 36 * level(colour.red) + 6 * level(colour.green) + level(colour.blue)

@@ -10,7 +10,7 @@ ghost use mathlib.Core.Path.{_≡_};
 ghost use Prim.Native.Nat.{_+_, _*_, _≤_, _<_};
 ghost use lib.ListN.{length};
 ghost use Rattle.io.specs.Counts.{Counts};
-ghost use Rattle.terminal.specs.Puts.{Puts};
+ghost use Rattle.text.specs.Puts.{Puts};
 ghost use Rattle.terminal.specs.Views.{Sound};
 ghost use Rattle.terminal.specs.Lines.{dotOf, line as lineOf};
 
@@ -35,7 +35,7 @@ pub fn put_line(screen: &[u8], view: View, j: usize, depth: Depth, room: &mut [u
 }
 
 // The colour of the picture's dot.
-pub fn dot(screen: &[u8], view: View, i: usize, j: usize) -> Colour
+fn dot(screen: &[u8], view: View, i: usize, j: usize) -> Colour
     requires { ⌜ Sound view ⌝ }
     requires { ⌜ view .width * view .height ≤ length (now screen) ⌝ }
     requires { ⌜ (i < view .columns) × (j < view .lines) ⌝ }

@@ -1,17 +1,11 @@
-// Bytes and numbers into a room.
+// Numbers into a room.
 use text::join::put_whole;
 ghost use mathlib.Core.Path.{_≡_};
 ghost use mathlib.Core.List.{_++_};
 ghost use Prim.Native.Nat.{_+_, _≤_};
 ghost use lib.ListN.{length};
-ghost use Rattle.terminal.specs.Puts.{Puts, digit as digitOf, decimal};
-
-pub fn put_bytes(bytes: &[u8], room: &mut [u8], at: usize) -> usize
-    requires { ⌜ at + length (now bytes) ≤ length (now room) ⌝ }
-    ensures { λ r. ⌜ Puts (now (bytes .entry)) (now (room .entry)) at (now (room .exit)) r ⌝ }
-{
-    put_whole(bytes, room, at)
-}
+ghost use Rattle.text.specs.Puts.{Puts};
+ghost use Rattle.terminal.specs.Decimals.{digit as digitOf, decimal};
 
 // No zeros lead.
 pub fn put_decimal(n: u8, room: &mut [u8], at: usize) -> usize
@@ -38,7 +32,7 @@ pub fn put_number(lead: &[u8], n: u8, room: &mut [u8], at: usize) -> usize
     requires { ⌜ at + (length (now lead) + 3) ≤ length (now room) ⌝ }
     ensures { λ r. ⌜ Puts (now (lead .entry) ++ decimal n) (now (room .entry)) at (now (room .exit)) r ⌝ }
 {
-    let behind = put_bytes(lead, room, at);
+    let behind = put_whole(lead, room, at);
     put_decimal(n, room, behind)
 }
 

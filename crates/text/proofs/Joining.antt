@@ -6,8 +6,9 @@ use native.Mathlib.Nat.{add-zero}
 use native.Mathlib.Numerals.{add-one}
 use native.Mathlib.Decide.{decLt}
 use native.Mathlib.Omega.{arith}
-use lib.ListN.{length, getD, drop, set, length-set, drop-of-length-le}
+use lib.ListN.{length, getD, drop, set, length-append, length-set, drop-of-length-le}
 use lib.Seq.{sets, drop-cons, set-out, length-sets}
+use Rattle.text.specs.Puts.{Puts}
 
 -- stores past the end change nothing
 pub sets-out : (l : List ℕ) (i : ℕ) (vs : List ℕ) → length l ≤ i → sets l i vs ≡ l
@@ -47,7 +48,7 @@ module _ {part room₀ room : List ℕ} {from i at : ℕ} (c : Joins part room�
       }
 
 -- ---- one part behind the other
-pub behind : (l : List ℕ) (i : ℕ) (a b : List ℕ) → sets (sets l i a) (i + length a) b ≡ sets l i (a ++ b)
+behind : (l : List ℕ) (i : ℕ) (a b : List ℕ) → sets (sets l i a) (i + length a) b ≡ sets l i (a ++ b)
 behind l i [] b = ap (λ (j : ℕ). sets l j b) (add-zero i)
 behind l i (v ∷ vs) b =
     let on : i + suc (length vs) ≡ suc i + length vs = omega arith in
@@ -64,3 +65,17 @@ joined l i a b = by (decLt (length l) (i + length a))
     by (no n) =
         let all : i + min (length a) (length l - i) ≡ i + length a = omega arith in
         ap (λ (j : ℕ). sets (sets l i a) j b) all ∙ behind l i a b
+
+module _ {s l m : List ℕ} {at to : ℕ} (p : Puts s l at m to) where
+  pub same-long : length m ≡ length l
+  same-long = ap length (p .stored) ∙ length-sets l at s
+
+  pub and-then : {t n : List ℕ} {end : ℕ} → Puts t m to n end → Puts (s ++ t) l at n end
+  and-then {t} q = record {
+    stored =
+        q .stored
+        ∙ ap (λ (x : List ℕ). sets x to t) (p .stored)
+        ∙ ap (λ (j : ℕ). sets (sets l at s) j t) (p .place)
+        ∙ behind l at s t;
+    place = omega (arith, q .place, p .place, length-append s t);
+  }

@@ -2,3 +2,4 @@ pub mod Bytes
 pub mod Items
 pub mod Number
 pub mod Hexadecimal
+pub mod Puts

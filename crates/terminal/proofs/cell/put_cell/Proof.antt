@@ -2,7 +2,8 @@
 use native.Mathlib.Omega.{arith}
 use Rattle.terminal.specs.Cells.{cell}
 use Rattle.terminal.proofs.Painting.{thirteen-bytes}
-use Rattle.terminal.proofs.Putting.{and-then, room-left}
+use Rattle.text.proofs.Joining.{and-then}
+use Rattle.terminal.proofs.Putting.{room-left}
 use borrow.Author.Needs.{needs}
 use Rattle.terminal.proofs.cell.put_cell.Statement.{statement}
 use Rattle.terminal.proofs.cell.put_cell.Tie as tie
@@ -22,11 +23,11 @@ put-colour-requires-2 c κs =
     let k = a .before .before .before .before .args in
     room-left (a .put-colour .ensures) 18 17 (omega (arith, thirteen-bytes (k .depth) (k .upper))) (omega arith)
 
-slice-aggregate-put-bytes : tie.Need-slice-aggregate-put-bytes
-slice-aggregate-put-bytes c = search needs
+slice-aggregate-put-whole : tie.Need-slice-aggregate-put-whole
+slice-aggregate-put-whole c = search needs
 
-put-bytes-requires : tie.Need-put-bytes-requires
-put-bytes-requires c κs =
+put-whole-requires : tie.Need-put-whole-requires
+put-whole-requires c κs =
     let b = c .before .before .before .before in
     let a = b .before .before .before .before .before in
     let k = a .before .before .before .before .args in
@@ -42,7 +43,7 @@ returns c =
     let d = c .before .before in
     let b = d .before .before .before .before .before in
     let a = b .before .before .before .before .before in
-    and-then (a .put-colour .ensures) (and-then (b .put-colour2 .ensures) (d .put-bytes .ensures))
+    and-then (a .put-colour .ensures) (and-then (b .put-colour2 .ensures) (d .put-whole .ensures))
 
 pub put-cell-spec : {M : Type 1} → statement M
 put-cell-spec =
@@ -52,7 +53,7 @@ put-cell-spec =
     put-colour-requires
     slice-aggregate-put-colour-2
     put-colour-requires-2
-    slice-aggregate-put-bytes
-    put-bytes-requires
+    slice-aggregate-put-whole
+    put-whole-requires
     same-length
     returns)

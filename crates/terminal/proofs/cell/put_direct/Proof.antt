@@ -1,6 +1,7 @@
 -- `terminal::cell::put_direct` meets its contract.
 use native.Mathlib.Omega.{arith}
-use Rattle.terminal.proofs.Putting.{and-then, room-left, three-digits}
+use Rattle.text.proofs.Joining.{and-then}
+use Rattle.terminal.proofs.Putting.{room-left, three-digits}
 use borrow.Author.Needs.{needs}
 use Rattle.terminal.proofs.cell.put_direct.Statement.{statement}
 use Rattle.terminal.proofs.cell.put_direct.Tie as tie

@@ -2,7 +2,7 @@
 use Prim.Native.Nat.{_-_}
 use native.Mathlib.Omega.{arith}
 use Rattle.io.proofs.Counting.{counts}
-use Rattle.terminal.proofs.Putting.{same-long}
+use Rattle.text.proofs.Joining.{same-long}
 use Rattle.terminal.proofs.Lining.{Lining, no-cell, one-cell, all-cells}
 use borrow.Author.Needs.{needs}
 use Rattle.terminal.proofs.line.put_line.Statement.{statement}

@@ -1,11 +1,11 @@
 -- `terminal::put::put_number` meets its contract.
-use Rattle.terminal.proofs.Putting.{and-then}
+use Rattle.text.proofs.Joining.{and-then}
 use borrow.Author.Needs.{needs}
 use Rattle.terminal.proofs.put.put_number.Statement.{statement}
 use Rattle.terminal.proofs.put.put_number.Tie as tie
 
-put-bytes-requires : tie.Need-put-bytes-requires
-put-bytes-requires c κs = search needs
+put-whole-requires : tie.Need-put-whole-requires
+put-whole-requires c κs = search needs
 
 put-decimal-requires : tie.Need-put-decimal-requires
 put-decimal-requires c κs = search needs
@@ -14,7 +14,7 @@ same-length : tie.Need-same-length
 same-length c = search needs
 
 returns : tie.Need-returns
-returns c = let d = c .before .before in and-then (d .before .before .before .before .put-bytes .ensures) (d .put-decimal .ensures)
+returns c = let d = c .before .before in and-then (d .before .before .before .before .put-whole .ensures) (d .put-decimal .ensures)
 
 pub put-number-spec : {M : Type 1} → statement M
-put-number-spec = tie.close (tie.spec put-bytes-requires put-decimal-requires same-length returns)
+put-number-spec = tie.close (tie.spec put-whole-requires put-decimal-requires same-length returns)
