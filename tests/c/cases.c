@@ -1,6 +1,7 @@
 /*
- * The fourteen cases of docs/RULES.md with their variants, request T-02's, a line that is mostly outside, the numbers 10 to 14, and
- * what the header says of NULL and of its limits, through the C face of the box. Each answer is checked whole: number, steps, every field of the environment, every byte.
+ * The fourteen cases of docs/RULES.md with their variants, request T-02's, a line that is mostly outside, the numbers 10 to 14,
+ * and what the header says of NULL and of its limits, through the C face of the box. Each answer is checked whole: number,
+ * steps, every field of the environment, every byte.
  */
 
 #include "libc.h"
