@@ -10,8 +10,9 @@ use Rattle.player.specs.declared.State.the-variants.{Running, Ended, Sto
 use Rattle.player.specs.Painting.{painted}
 use Rattle.player.specs.Player.{verdict, Outcome, done, refused, Player, Stops}
 use Rattle.player.specs.Run.{Answer, answer, by-state, by-opcode, runs}
+use Rattle.player.specs.Slices.{after}
 use Rattle.player.proofs.Runs.{ended, stopped, idle}
-use Rattle.player.proofs.Unsteered.{after, counted}
+use Rattle.player.proofs.Unsteered.{counted}
 
 module _ {E : Type 0} (P : Player E) (stops : Stops P) where
   -- ---- a budget cut in two

@@ -72,19 +72,47 @@ module _ (q : Request (List ℕ)) (b : Bounds) (fits : Bool) (bytes : ℕ) where
         unfolding doorOf
         is-0 l k = sym (rw (s, eq-eqb _ _ same, f, le-leb _ _ l, le-leb _ _ k))
 
--- no number of the door is above 14
-pub at-most-14 : (q : Request (List ℕ)) (b : Bounds) (fits : Bool) (bytes : ℕ) → doorOf q b fits bytes ≤ 14
+-- ---- which numbers the door has: 0, and 10 to 14; under an allowed budget none above 13
+or-less : (m n : ℕ) (t : Bool) {x : ℕ} → n ≤ m → x ≤ m → unless n t x ≤ m
+or-less m n true h k = k
+or-less m n false h k = h
+
+or-more : (n : ℕ) (t : Bool) {x : ℕ} → 10 ≤ n → ((x ≡ 0 → ⊥) → 10 ≤ x) → (unless n t x ≡ 0 → ⊥) → 10 ≤ unless n t x
+or-more n true h k z = k z
+or-more n false h k z = h
+
+module _ (q : Request (List ℕ)) (b : Bounds) (fits : Bool) (bytes : ℕ) where
+  pub at-most-14 : doorOf q b fits bytes ≤ 14
+  unfolding doorOf
+  at-most-14 =
+      or-less 14 10 (sizeFits b) (lit≤ tt)
+      (or-less 14 11 (eqb bytes (b .width * b .height)) (lit≤ tt)
+      (or-less 14 12 fits (lit≤ tt)
+      (or-less 14 13 (leb (length (q .list)) 65536) (lit≤ tt)
+      (or-less 14 14 (leb (q .budget) 1000000) (lit≤ tt) (lit≤ tt)))))
+
+  pub at-most-13 : q .budget ≤ 1000000 → doorOf q b fits bytes ≤ 13
+  unfolding doorOf
+  at-most-13 h =
+      or-less 13 10 (sizeFits b) (lit≤ tt)
+      (or-less 13 11 (eqb bytes (b .width * b .height)) (lit≤ tt)
+      (or-less 13 12 fits (lit≤ tt)
+      (or-less 13 13 (leb (length (q .list)) 65536) (lit≤ tt) (rw (le-leb _ _ h) (lit≤ tt)))))
+
+  pub at-least-10 : (doorOf q b fits bytes ≡ 0 → ⊥) → 10 ≤ doorOf q b fits bytes
+  unfolding doorOf
+  at-least-10 =
+      or-more 10 (sizeFits b) (lit≤ tt)
+      (or-more 11 (eqb bytes (b .width * b .height)) (lit≤ tt)
+      (or-more 12 fits (lit≤ tt)
+      (or-more 13 (leb (length (q .list)) 65536) (lit≤ tt)
+      (or-more 14 (leb (q .budget) 1000000) (lit≤ tt) (λ z. absurd (z refl))))))
+
+-- ---- the budget: every allowed one is told the same
+pub any-budget : (w : List ℕ) (a c : ℕ) (b : Bounds) (fits : Bool) (bytes : ℕ) → a ≤ 1000000 → c ≤ 1000000
+    → doorOf (record { list = w; budget = a }) b fits bytes ≡ doorOf (record { list = w; budget = c }) b fits bytes
 unfolding doorOf
-at-most-14 q b fits bytes =
-    or-less 10 (sizeFits b) (lit≤ tt)
-    (or-less 11 (eqb bytes (b .width * b .height)) (lit≤ tt)
-    (or-less 12 fits (lit≤ tt)
-    (or-less 13 (leb (length (q .list)) 65536) (lit≤ tt)
-    (or-less 14 (leb (q .budget) 1000000) (lit≤ tt) (lit≤ tt)))))
-  where
-    or-less : (n : ℕ) (t : Bool) {x : ℕ} → n ≤ 14 → x ≤ 14 → unless n t x ≤ 14
-    or-less n true h k = k
-    or-less n false h k = h
+any-budget w a c b fits bytes h k = rw (le-leb _ _ h, le-leb _ _ k)
 
 -- what is let in, is let in with any smaller budget
 pub lets-in-less : (q : Request (List ℕ)) (b : Bounds) (fits : Bool) (bytes k : ℕ) → k ≤ q .budget → doorOf q b fits bytes ≡ 0

@@ -9,6 +9,9 @@ pub mod Drawings
 pub mod Hosts
 pub mod Doors
 pub mod Stands
+pub mod Steady
+pub mod Slices
+pub mod InTurns
 pub mod Turning
 pub mod Toys
 pub mod Strays

@@ -1,20 +1,21 @@
--- What demand 3 is shown from is needed, each part: without it a mixing disturbs a side. And so for demand 1: only refusals may stop.
+-- What demand 3 is shown from is needed, each part: without it a mixing disturbs a side. And so for demand 1: only refusals may stop. And so for slices.
 use mathlib.Core.Path.{_≡_, refl, ap}
 use mathlib.Core.List.{List, [], _∷_}
-use Prim.Native.Nat.{ℕ}
+use Prim.Native.Nat.{ℕ, _+_}
 use native.Mathlib.Omega.{arith}
 use Rattle.raster.specs.Frame.{drawable}
 use Rattle.raster.specs.Paint.{recolourFrom, paint}
 use Rattle.player.specs.declared.Verdict.{Verdict}
 use Rattle.player.specs.Reply.{Got}
 use Rattle.player.specs.Player.{verdict}
-use Rattle.player.specs.Run.{runs}
+use Rattle.player.specs.Run.{Answer, runs}
 use Rattle.player.specs.Mixing.{Callable, alone, one, two, Mix, mixed}
 use Rattle.player.specs.Undisturbed.{Undisturbed}
-use Rattle.player.specs.Hosted.{answered, callable}
+use Rattle.player.specs.Hosted.{Hosted, answered, callable}
 use Rattle.player.specs.Stands.{EndsStopped, Stands}
+use Rattle.player.specs.Slices.{call, after}
 use Rattle.player.specs.Toy.{Env, fresh, west, east, toy, toys}
-use Rattle.player.specs.Stray.{spills, widens, peeks, loses, halts}
+use Rattle.player.specs.Stray.{spills, widens, peeks, loses, halts, picks, shuts, skips}
 use Rattle.player.proofs.Toys.{brushes, pens, ask, blank}
 
 abbrev Disturbed : (A B : Callable) → Mix A B → A .Env → B .Env → Type 0
@@ -59,3 +60,22 @@ pub halted : EndsStopped (toys halts) (ask (7 ∷ []) 9) west blank (verdict 20)
     × (Stands (toy halts (7 ∷ [])) (verdict 20) (answered (toys halts) (ask (7 ∷ []) 9) west blank) (answered (toys halts) (ask (7 ∷ []) 1) west blank) → ⊥)
 unfolding answered runs
 halted = (record { entered = refl; began = refl; stopped = refl }, λ t. let z : _≡_ {A = ℕ} 20 1 = ap (λ (v : Verdict). v .number) (t .used-up) in omega arith)
+
+-- ---- two slices of 1 that do not come to what a budget of 2 comes to
+abbrev CutSeen : (H : Hosted) → H .Words → H .Env → Type 0
+CutSeen H w e = (let x = call H w 1 e blank in call H w (1 + 1) e blank ≡ after (x .steps) (call H w 1 (x .env) (x .screen))) → ⊥
+
+-- a door that does not say the same under every allowed budget
+pub picked : CutSeen picks (7 ∷ 8 ∷ 9 ∷ []) west
+unfolding answered runs paint drawable recolourFrom
+picked u = let z : _≡_ {A = ℕ} 14 1 = ap (λ (a : Answer Env). a .verdict .number) u in omega arith
+
+-- a door that does not let in again what a call left
+pub shut : CutSeen shuts (7 ∷ 8 ∷ 9 ∷ []) west
+unfolding answered runs paint drawable recolourFrom
+shut u = let z : _≡_ {A = ℕ} 1 12 = ap (λ (a : Answer Env). a .verdict .number) u in omega arith
+
+-- a stop that is not recorded
+pub skipped : CutSeen skips [] west
+unfolding answered runs
+skipped u = let z : _≡_ {A = ℕ} 1 2 = ap (λ (a : Answer Env). a .env .at) u in omega arith

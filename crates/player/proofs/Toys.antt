@@ -1,4 +1,4 @@
--- Demand 3 for the brush and the pen, and one mixing of their calls worked out; demand 1 for the pen, and one call that it refuses.
+-- Demand 3 for the brush and the pen, and one mixing of their calls worked out; demand 1 for the pen, and one call that it refuses; the brush in slices.
 use mathlib.Core.Path.{_≡_, refl}
 use mathlib.Core.Bool.{Bool, true, false, cond}
 use mathlib.Core.List.{List, [], _∷_}
@@ -12,17 +12,19 @@ use Rattle.raster.specs.Frame.{drawable}
 use Rattle.raster.specs.Paint.{recolourFrom, paint}
 use Rattle.player.specs.Reply.{Got}
 use Rattle.player.specs.Player.{verdict, Outcome, refused, LeavesUnstopped, OnlyRefusalsStop}
-use Rattle.player.specs.Run.{Told, runs}
+use Rattle.player.specs.Run.{Answer, Told, runs}
 use Rattle.player.specs.Pane.{Apart}
 use Rattle.player.specs.Mixing.{Callable, one, two, Mix, ones, twos, Mixed, mixed}
 use Rattle.player.specs.Undisturbed.{Undisturbed}
 use Rattle.player.specs.Hosted.{Request, answered, callable}
 use Rattle.player.specs.Keeps.{Stays, Keeps}
 use Rattle.player.specs.Stands.{LetsInLess, EndsStopped, Stands}
+use Rattle.player.specs.Slices.{call, Steady, sliced}
 use Rattle.player.specs.Toy.{Env, west, east, brush, pen, toy, toys}
 use Rattle.player.proofs.Panes.{beside}
 use Rattle.player.proofs.Hosts
 use Rattle.player.proofs.Stands.{stands}
+use Rattle.player.proofs.Slices.{slices}
 
 abbrev pub brushes : Callable
 brushes = callable (toys brush)
@@ -120,3 +122,26 @@ pub dots-stand : Stands (toy pen (0 ∷ 1 ∷ 2 ∷ [])) (verdict 20) (answered 
     (answered (toys pen) (ask (0 ∷ 1 ∷ 2 ∷ []) 3) east blank)
 unfolding answered runs
 dots-stand = stands (toys pen) lets-in-less (λ w v e. refl) only-refusals-stop (ask (0 ∷ 1 ∷ 2 ∷ []) 9) east blank (verdict 20) past-the-end
+
+-- ---- slices: the brush's door is steady, so it may be cut
+brush-steady : Steady (toys brush)
+brush-steady =
+    let o = Hosts.hosted-obeys (toys brush) (toy-keeps brush brush-stays) in
+    record {
+      budgets = λ w a b e bytes h k. rw (le-ltb 1000000 a h, le-ltb 1000000 b k);
+      again = λ w b e s h. rw (o .long (ask w b) e s, o .keeps (ask w b) e s) h;
+    }
+
+abbrev filling : List ℕ
+filling = 7 ∷ 1 ∷ 8 ∷ 0 ∷ []
+
+pub cut : sliced (toys brush) filling 1 (0 ∷ 2 ∷ 9 ∷ []) west blank ≡ call (toys brush) filling 12 west blank
+cut = slices (toys brush) brush-steady (λ w v e. refl) filling 1 (0 ∷ 2 ∷ 9 ∷ []) west blank (omega arith)
+
+-- number, steps and screen
+abbrev told : Answer Env → ℕ × ℕ × List ℕ
+told a = (a .verdict .number, a .steps, a .screen)
+
+pub cut-played : told (sliced (toys brush) filling 1 (0 ∷ 2 ∷ 9 ∷ []) west blank) ≡ (0, 4, 8 ∷ 8 ∷ 0 ∷ 0 ∷ 0 ∷ 8 ∷ 8 ∷ 0 ∷ 0 ∷ 0 ∷ 8 ∷ 8 ∷ 0 ∷ 0 ∷ 0 ∷ [])
+unfolding sliced answered runs paint drawable recolourFrom
+cut-played = refl

@@ -8,6 +8,7 @@ use Rattle.player.specs.declared.State.the-variants.{Running, Ended, Sto
 use Rattle.player.specs.Painting.{Painting, painted}
 use Rattle.player.specs.Player.{verdict, Outcome, done, refused, Player}
 use Rattle.player.specs.Run.{Answer, answer, got, by-state, by-opcode, runs}
+use Rattle.player.specs.Slices.{after}
 
 -- ---- two runs from one environment go abreast: what stands between their screens and counts, and is kept by painting and counting, stands there in the end
 module _ {E : Type 0} (P : Player E) (R : List ℕ → ℕ → List ℕ → ℕ → Type 0) where
@@ -43,10 +44,6 @@ pub blind : {E : Type 0} (P : Player E) (left : ℕ) (e : E) (s t : List ℕ) (k
 blind P left e s t k =
     let h = abreast P (λ s k t j. k ≡ j) (λ p s k t j r. ap suc r) left e s k t k refl in
     λ i. record { told = record { verdict = h .verdict i; steps = h .between i }; env = h .env i }
-
--- an answer that comes after k steps of earlier ones
-abbrev pub after : {E : Type 0} → ℕ → Answer E → Answer E
-after k a = answer (a .verdict) (a .env) (a .screen) (k + a .steps)
 
 -- a run that counts from k answers as one that counts from 0, after k steps
 pub counted : {E : Type 0} (P : Player E) (left : ℕ) (e : E) (s : List ℕ) (k : ℕ) → runs P left e s k ≡ after k (runs P left e s 0)

@@ -1,5 +1,5 @@
 -- What any player is: Painting to Run. Demand 3 for any two sides: Pane to Promised. Who obeys its laws: Drawing to Keeps.
--- Demand 1 for a refused opcode: Stands. A player's door and loop: Door, Shown. Small players: Toy, Stray.
+-- Demand 1 for a refused opcode: Stands. A budget in slices: Slices, InTurns. A player's door and loop: Door, Shown. Small players: Toy, Stray.
 pub mod Painting
 pub mod Player
 pub mod Reply
@@ -13,6 +13,8 @@ pub mod Drawing
 pub mod Hosted
 pub mod Keeps
 pub mod Stands
+pub mod Slices
+pub mod InTurns
 pub mod Door
 pub mod Shown
 pub mod Toy

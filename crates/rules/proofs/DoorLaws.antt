@@ -1,6 +1,6 @@
--- The door: what it lets in, both ways; that it lets in a fresh environment, and what a call that it let in leaves.
+-- The door: what it lets in; what a run that it let in leaves; and that it lets in a fresh environment.
 use Prim.Native.Nat.{ℕ, _-_, _*_, _≤_}
-use mathlib.Core.Path.{_≡_, refl, sym, ap, _∙_, subst}
+use mathlib.Core.Path.{_≡_, refl, _∙_}
 use mathlib.Core.Bool.{true, _&&_}
 use mathlib.Core.List.{List}
 use native.Mathlib.Nat.{mul-comm}
@@ -13,31 +13,24 @@ use Rattle.numbers.specs.Coordinate.{inWord}
 use Rattle.numbers.proofs.Coordinates.{within-mag}
 use Rattle.raster.specs.Frame.{Coord, Sound, Fitting}
 use Rattle.player.specs.Hosted.{Request}
-use Rattle.player.specs.Run.{Answer, runs}
+use Rattle.player.specs.Run.{runs}
 use Rattle.player.proofs.Runs.{invariant}
-use Rattle.player.proofs.Hosts.{hosted-obeys}
 use Rattle.player.proofs.Doors as Doors
 use Rattle.rules.specs.Types.{Bounds, Window}
 use Rattle.rules.specs.Environment.{Env, frame}
 use Rattle.rules.specs.Step.{afgis}
-use Rattle.rules.specs.Door.{sizeFits, paneFits, windowFits, between, fits, door, machine, whole}
+use Rattle.rules.specs.Door.{sizeFits, paneFits, windowFits, between, fits, door}
 use Rattle.rules.specs.Fresh.{fresh}
 use Rattle.rules.proofs.Ranges.{both, one, other, Fits, joined, parted}
 use Rattle.rules.proofs.Kept.{step-keeps}
-use Rattle.rules.proofs.Alone.{keeps}
 
--- ---- what the door lets in, both ways
+-- ---- what the door lets in
 abbrev pub Open : Request (List ℕ) → Env → ℕ → Type 0
 Open q e bytes = Doors.Open q (e .bounds) (fits e) bytes
 
-module _ (q : Request (List ℕ)) (e : Env) (bytes : ℕ) where
-  pub opened : door q e bytes ≡ 0 → Open q e bytes
-  unfolding door
-  opened h = Doors.opened q (e .bounds) (fits e) bytes h
-
-  pub opens : Open q e bytes → door q e bytes ≡ 0
-  unfolding door
-  opens o = Doors.opens q (e .bounds) (fits e) bytes o
+pub opened : (q : Request (List ℕ)) (e : Env) (bytes : ℕ) → door q e bytes ≡ 0 → Open q e bytes
+unfolding door
+opened q e bytes h = Doors.opened q (e .bounds) (fits e) bytes h
 
 -- ---- what is let in may be drawn on
 pub coord : (z : ℤ) → inWord z ≡ true → Coord z
@@ -76,23 +69,6 @@ module _ (w : List ℕ) (few : length w ≤ 65536) where
   -- every field in range, and the bounds as they were
   pub run-keeps : (left : ℕ) (e : Env) (s : List ℕ) (k : ℕ) → fits e ≡ true → Fits (e .bounds) (runs (afgis w) left e s k .env)
   run-keeps left e s k h = invariant (afgis w) (Fits (e .bounds)) (λ x g. step-keeps w few (e .bounds) x g) left e s k (parted e h)
-
--- ---- the whole answer of a call
-module _ (w s : List ℕ) (e : Env) (budget : ℕ) where
-  -- what a call that was let in leaves is let in again, with the same list and any budget that is allowed
-  pub again : (b : ℕ) → door (record { list = w; budget = budget }) e (length s) ≡ 0 → b ≤ 1000000
-      → door (record { list = w; budget = b }) (whole w s e budget .env) (length (whole w s e budget .screen)) ≡ 0
-  again b h small =
-      let a = whole w s e budget in
-      let o = opened (record { list = w; budget = budget }) e (length s) h in
-      let f : Fits (e .bounds) (a .env) = subst (λ (x : Answer Env). Fits (e .bounds) (x .env)) (Doors.run-whole machine (record { list = w; budget = budget }) e s 0 (sym h) refl) (run-keeps w (o .few) budget e s 0 (o .ranges)) in
-      opens (record { list = w; budget = b }) (a .env) (length (a .screen)) (record {
-        size = ap sizeFits (f .4) ∙ o .size;
-        area = hosted-obeys machine keeps .long (record { list = w; budget = budget }) e s ∙ (o .area ∙ ap (λ (x : Bounds). x .width * x .height) (sym (f .4)));
-        ranges = joined (a .env) f;
-        few = o .few;
-        short = small;
-      })
 
 -- ---- a fresh environment is let in
 small-word : (n : ℕ) → n ≤ 2047 → inWord (pos n) ≡ true

@@ -5,6 +5,7 @@ pub mod Kept
 pub mod Alone
 pub mod DoorLaws
 pub mod Refusals
+pub mod Slices
 pub mod Unique
 pub mod Cases
 pub mod Useless

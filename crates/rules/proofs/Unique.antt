@@ -16,7 +16,7 @@ use Rattle.rules.specs.declared.environment.Env as Held
 use Rattle.rules.specs.declared.answer.Answer as Came
 use Rattle.rules.specs.declared.answer.Made as Made
 use Rattle.rules.specs.Environment.{Env, held, stateOf, byteOf, firsts}
-use Rattle.rules.specs.Door.{door, whole, Promise}
+use Rattle.rules.specs.Door.{door, whole, said, Promise}
 use Rattle.rules.specs.Fresh.{zeros}
 use Rattle.rules.specs.Fresh as Fresh
 use Rattle.rules.proofs.StackLaws.{length-firsts}
@@ -76,16 +76,19 @@ pub record Agree (a b : Came.Answer) (s t : List ℕ) : Type 0 where
   pub screen : s ≡ t
   pub steps : a .steps ≡ b .steps
 
-pub unique : (w s₀ : List ℕ) (e : Held.Env) (budget : ℕ) (a b : Came.Answer) (s t : List ℕ)
-    → Promise w s₀ e budget a s → Promise w s₀ e budget b t → Agree a b s t
-unique w s₀ e budget a b s t p q =
-    let r = p ∙ sym q in
+-- where the rules say the same of them
+pub agree : (a b : Came.Answer) (s t : List ℕ) → said a s ≡ said b t → Agree a b s t
+agree a b s t r =
     record {
       number = ap (λ (x : Answer Env). x .verdict .number) r;
       env = alike (a .env) (b .env) (ap (λ (x : Answer Env). x .env) r);
       screen = ap (λ (x : Answer Env). x .screen) r;
       steps = ap (λ (x : Answer Env). x .steps) r;
     }
+
+pub unique : (w s₀ : List ℕ) (e : Held.Env) (budget : ℕ) (a b : Came.Answer) (s t : List ℕ)
+    → Promise w s₀ e budget a s → Promise w s₀ e budget b t → Agree a b s t
+unique w s₀ e budget a b s t p q = agree a b s t (p ∙ sym q)
 
 -- and so are two fresh environments made from one size and pane
 pub unique-made : (b : Bounds) (m n : Made.Made) → Fresh.Promise b m → Fresh.Promise b n → (m .number ≡ n .number) × Alike (m .env) (n .env)
