@@ -3,3 +3,4 @@ pub mod Stepping
 pub mod Lending
 pub mod Refusals
 pub mod Sides
+pub mod Slices
