@@ -3,44 +3,17 @@
  * random from a seed, and compares every answer whole. Exit status 1 on a difference or a kind never met.
  */
 
+#include "check.h"
 #include "count.h"
-#include "judge.h"
 #include "libc.h"
 #include "make.h"
 #include "random.h"
 #include "shrink.h"
+#include "slices.h"
 
-enum { DEFAULT_SEED = 1, DEFAULT_CALLS = 500000, DIFFERENCES_SHOWN = 3, MOST_SLICES = 1000 };
-
-static unsigned long long differences;
-
-/* Counts a difference; true for the first few, which are shown. */
-static int is_shown(void)
-{
-    differences++;
-    return differences <= DIFFERENCES_SHOWN;
-}
+enum { DEFAULT_SEED = 1, DEFAULT_CALLS = 500000 };
 
 /* ---- one call ---- */
-
-static void show_smallest(const struct call *call)
-{
-    static struct call smallest;
-
-    copy_call(&smallest, call);
-    shrink(&smallest);
-    print_difference(&smallest);
-}
-
-static void check_call(const struct call *call, struct verdict *verdict)
-{
-    judge(call, verdict);
-    count_call(call, verdict->box.number);
-    if (verdict->difference != NULL && is_shown()) {
-        show_smallest(call);
-        judge(call, verdict);
-    }
-}
 
 static void check_whole_call(void)
 {
@@ -77,67 +50,6 @@ static void check_fresh(void)
         printf("difference: %s; fresh of %u x %u, pane %u %u %u %u, the box's number is %d\n", difference,
                (unsigned)request.width, (unsigned)request.height, (unsigned)pane->left, (unsigned)pane->top,
                (unsigned)pane->right, (unsigned)pane->bottom, number);
-}
-
-/* The call goes on from what the box left. */
-static void go_on(struct call *call, const struct verdict *verdict)
-{
-    call->env = verdict->box.env;
-    memcpy(call->screen, verdict->box.screen, call->bytes);
-    call->kinds[ENVIRONMENTS] = ENV_CONTINUED;
-}
-
-/* ---- slices ---- */
-
-static void set_slice(struct call *call, uint32_t budget)
-{
-    call->budget = budget;
-    call->kinds[BUDGETS] = budget == 0 ? BUDGET_NONE : budget == 1 ? BUDGET_ONE : BUDGET_FEW;
-}
-
-/* Runs the call in slices to its end or its budget's; returns the last number and all steps. */
-static struct afgis_answer run_in_slices(struct call *call)
-{
-    struct afgis_answer sum = { 1, 0 };
-    uint32_t budget = call->budget;
-    struct verdict verdict;
-
-    for (int slices = 0; sum.number == 1 && sum.steps < budget && slices < MOST_SLICES; slices++) {
-        uint32_t slice = below(6);
-        set_slice(call, slice < budget - sum.steps ? slice : budget - sum.steps);
-        check_call(call, &verdict);
-        sum.number = verdict.box.number;
-        sum.steps += verdict.box.steps;
-        go_on(call, &verdict);
-    }
-    return sum;
-}
-
-/* The slices together came to the same as the whole. */
-static int came_to_the_same(struct afgis_answer sum, const struct call *sliced, const struct outcome *whole)
-{
-    return sum.number == whole->number && sum.steps == whole->steps && same_env(&sliced->env, &whole->env)
-        && memcmp(sliced->screen, whole->screen, sliced->bytes) == 0;
-}
-
-/* A run in slices must come to the same as the run in one call. */
-static void check_slices(void)
-{
-    static struct call whole, sliced;
-    struct verdict verdict;
-    struct afgis_answer sum;
-
-    make_good_call(&whole);
-    whole.budget = (uint32_t)between(9, 60);
-    whole.kinds[BUDGETS] = BUDGET_ENOUGH;
-    copy_call(&sliced, &whole);
-    sliced.kinds[CALLS] = CALL_SLICE;
-    sum = run_in_slices(&sliced);
-    check_call(&whole, &verdict);
-    if (!came_to_the_same(sum, &sliced, &verdict.box) && is_shown()) {
-        printf("difference: slices and one call\n");
-        print_difference(&whole);
-    }
 }
 
 /* ---- two panes on one screen ---- */
@@ -212,8 +124,8 @@ static void check_two_panes(void)
         agree &= one_in(2) ? step_side(&a, &b, below(9)) : step_side(&b, &a, below(9));
     if (!(agree && screens_agree(&a, &b, before)) && is_shown()) {
         printf("difference: two panes mixed and each alone\n");
-        print_difference(&a.mixed);
-        print_difference(&b.mixed);
+        print_call(&a.mixed);
+        print_call(&b.mixed);
     }
 }
 
@@ -265,7 +177,7 @@ static void check_something(void)
 {
     if (one_in(20))
         check_fresh();
-    else if (one_in(30))
+    else if (one_in(120))
         check_slices();
     else if (one_in(120))
         check_two_panes();
@@ -286,6 +198,6 @@ int main(int count, char **arguments)
         check_something();
     never = print_counts();
     printf("seed %llu, %llu calls, %llu differences, %d kinds never met\n", seed,
-           (unsigned long long)calls_counted(), differences, never);
-    return differences != 0 || never != 0;
+           (unsigned long long)calls_counted(), differences_counted(), never);
+    return differences_counted() != 0 || never != 0;
 }

@@ -10,7 +10,7 @@ static const struct {
     const char *title;
     const char *members[MOST_MEMBERS];
 } groups[GROUPS] = {
-    [CALLS] = { "calls", { "whole", "slice", "two panes mixed", "one pane alone" } },
+    [CALLS] = { "calls", { "whole", "slice", "larger budget", "two panes mixed", "one pane alone" } },
     [LISTS] = { "lists", { "empty", "each opcode word", "random words", "valid opcodes", "one word damaged", "loops",
                            "endless loops", "calls near the limits", "longest", "too long", "2^32 words too long",
                            "two refusals at once" } },
@@ -27,6 +27,9 @@ static const struct {
                                      "13+14" } },
     [OPCODE_PAIRS] = { "opcode pairs", { "22+23", "22+24", "22+25", "22+26", "22+28", "23+24", "23+25", "23+26",
                                          "23+28", "24+25", "24+27", "27+28" } },
+    [SLICED] = { "run in slices", { "ends", "runs on", "is stopped", "had ended", "was stopped", "10", "11", "12",
+                                    "13" } },
+    [SLICES] = { "slices", { "of 1", "of 7", "of 0 to 12" } },
     [FRESH_CALLS] = { "fresh", { "good", "bad size", "bad pane", "both bad" } },
     [NUMBERS] = { "numbers", { "0", "1", "10", "11", "12", "13", "14", "20", "21", "22", "23", "24", "25", "26", "27",
                                "28", "29" } },

@@ -121,10 +121,8 @@ static void make_door_pair(struct call *call)
     call->kinds[DOOR_PAIRS] = door_pair(lower, higher);
 }
 
-static void make_door_refusal(struct call *call)
+static void make_door_refusal(struct call *call, int number)
 {
-    int number = between(10, 14);
-
     break_by(call, number);
     if (number == 10)
         follow_size(call);
@@ -160,7 +158,7 @@ void make_call(struct call *call)
     if (one_in(16))
         make_door_pair(call);
     else if (one_in(16))
-        make_door_refusal(call);
+        make_door_refusal(call, between(10, 14));
     else if (one_in(8))
         make_two_refusals(call);
     fill_screen(call);
@@ -171,6 +169,15 @@ void make_good_call(struct call *call)
     do
         make_allowed_call(call);
     while (call->env.registers.state != RUNNING || call->kinds[LISTS] == LIST_ENDLESS);
+    fill_screen(call);
+}
+
+void make_call_to_slice(struct call *call)
+{
+    make_allowed_call(call);
+    call->budget = below(61);
+    if (one_in(4))
+        make_door_refusal(call, between(10, 13));
     fill_screen(call);
 }
 

@@ -17,6 +17,9 @@ void make_call(struct call *call);
 /* A call that no door refuses, its environment running. */
 void make_good_call(struct call *call);
 
+/* A call with a budget of 0 to 60, which the door may refuse with 10 to 13. */
+void make_call_to_slice(struct call *call);
+
 /* A good call whose list begins with this word. */
 void make_opcode_word_call(struct call *call, uint16_t word);
 

@@ -311,14 +311,11 @@ static void print_bytes(const struct call *call, const struct verdict *verdict)
     }
 }
 
-void print_difference(const struct call *call)
+void print_call(const struct call *call)
 {
     struct ovenlute_env plain;
-    struct verdict verdict;
 
-    judge(call, &verdict);
     plain_env(call, &plain);
-    printf("difference: %s\n", verdict.difference ? verdict.difference : "none when run again");
     print_list(call);
     printf("  screen %u x %u, %llu bytes; budget %u", (unsigned)call->env.bounds.width,
            (unsigned)call->env.bounds.height, (unsigned long long)call->bytes, (unsigned)call->budget);
@@ -327,6 +324,15 @@ void print_difference(const struct call *call)
     printf("\n");
     printf("  environment fresh, the pane the whole screen, but:");
     print_fields(&call->env, &plain);
+}
+
+void print_difference(const struct call *call)
+{
+    struct verdict verdict;
+
+    judge(call, &verdict);
+    printf("difference: %s\n", verdict.difference ? verdict.difference : "none when run again");
+    print_call(call);
     print_outcome("box", call, &verdict.box);
     print_outcome("reference", call, &verdict.reference);
     print_bytes(call, &verdict);

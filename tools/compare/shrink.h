@@ -7,7 +7,10 @@
 /* Changes the call to a smaller one on which box and reference still differ. */
 void shrink(struct call *call);
 
-/* Prints the call in full and both answers. */
+/* Prints the call in full. */
+void print_call(const struct call *call);
+
+/* Prints it with both answers. */
 void print_difference(const struct call *call);
 
 #endif

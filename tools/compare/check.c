@@ -1,0 +1,45 @@
+#include "check.h"
+#include "count.h"
+#include "libc.h"
+#include "shrink.h"
+
+enum { DIFFERENCES_SHOWN = 3 };
+
+static unsigned long long differences;
+
+int is_shown(void)
+{
+    differences++;
+    return differences <= DIFFERENCES_SHOWN;
+}
+
+unsigned long long differences_counted(void)
+{
+    return differences;
+}
+
+static void show_smallest(const struct call *call)
+{
+    static struct call smallest;
+
+    copy_call(&smallest, call);
+    shrink(&smallest);
+    print_difference(&smallest);
+}
+
+void check_call(const struct call *call, struct verdict *verdict)
+{
+    judge(call, verdict);
+    count_call(call, verdict->box.number);
+    if (verdict->difference != NULL && is_shown()) {
+        show_smallest(call);
+        judge(call, verdict);
+    }
+}
+
+void go_on(struct call *call, const struct verdict *verdict)
+{
+    call->env = verdict->box.env;
+    memcpy(call->screen, verdict->box.screen, call->bytes);
+    call->kinds[ENVIRONMENTS] = ENV_CONTINUED;
+}
