@@ -110,7 +110,8 @@ struct ovenlute_made ovenlute_fresh(uint32_t width, uint32_t height, struct oven
 
 /* Runs a list of 16-bit words on a screen of one byte a pixel, row by row from the top left, with the environment changed in
    place: at most `budget` opcodes, 0 to 1,000,000. Numbers: 0, 1, 10 to 14, 20 to 29.
-   - 1: call again with the same list to go on. A budget counts opcodes and not time: an opcode that clears a screen of
+   - 1: call again with the same list to go on. However a budget is cut into calls, the last number, environment and screen
+     are those of one call, and the steps add up. A budget counts opcodes and not time: an opcode that clears a screen of
      2,048 x 2,048 sets four million bytes, so a host that has other things to do gives small budgets.
    - 10 to 14: nothing is done, steps is 0.
    - 20 to 29: the list is stopped; ovenlute_text has the words, env->registers.counter the index of the opcode at fault.
