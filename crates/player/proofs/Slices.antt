@@ -133,13 +133,17 @@ module _ (H : Hosted) (steady : Steady H) (stops : (w : H .Words) → Stops (H .
       stopped-twice v q = repeats v (λ c h. runs-each c h ∙ Runs.stopped P c e s 0 v q)
 
 -- ---- of a program: what its slices came to is what slices of the rules come to
+-- the answer that a reply tells
+abbrev told : {E : Type 0} → Reply E Told → Answer E
+told r = answer (r .got .told .verdict) (r .got .env) (r .screen) (r .got .told .steps)
+
 module _ (H : Hosted) (F : Promised (callable H)) (w : H .Words) where
   -- an answer of the program, in environments of the rules
   abbrev pub viewed : Answer (F .Held) → Answer (H .Env)
   viewed x = answer (x .verdict) (F .view (x .env)) (x .screen) (x .steps)
 
   true-to : (b : ℕ) (h : F .Held) (s : List ℕ) (x : Answer (F .Held)) → Sliced H F w b [] h s x → viewed x ≡ call H w b (F .view h) s
-  true-to b h s x p = ap (λ (r : Reply (H .Env) Told). answer (r .got .told .verdict) (r .got .env) (r .screen) (r .got .told .steps)) (F .true-to _ h s _ p)
+  true-to b h s x p = ap told (F .true-to _ h s _ p)
 
   pub kept : (b : ℕ) (bs : List ℕ) (h : F .Held) (s : List ℕ) (x : Answer (F .Held)) → Sliced H F w b bs h s x → viewed x ≡ sliced H w b bs (F .view h) s
   unfolding sliced
@@ -151,9 +155,7 @@ module _ (H : Hosted) (F : Promised (callable H)) (w : H .Words) where
 
   -- and a program that answers comes to something
   some-call : Answers F → (b : ℕ) (h : F .Held) (s : List ℕ) → (x : Answer (F .Held)) × Sliced H F w b [] h s x
-  some-call f b h s =
-      let (r, p) = f (record { list = w; budget = b }) h s in
-      (answer (r .got .told .verdict) (r .got .env) (r .screen) (r .got .told .steps), p)
+  some-call f b h s = let (r, p) = f (record { list = w; budget = b }) h s in (told r, p)
 
   pub some-sliced : Answers F → (b : ℕ) (bs : List ℕ) (h : F .Held) (s : List ℕ) → (x : Answer (F .Held)) × Sliced H F w b bs h s x
   some-sliced f b [] h s = some-call f b h s

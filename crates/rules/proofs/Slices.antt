@@ -27,8 +27,8 @@ use Rattle.rules.proofs.Ranges.{both, joined}
 use Rattle.rules.proofs.Alone.{keeps}
 use Rattle.rules.proofs.DoorLaws.{run-keeps}
 
--- the door is steady, and a refusal is recorded: all that slices ask for
-steady : Steady machine
+-- what slices ask of the door
+pub steady : Steady machine
 unfolding door
 steady = door-steady (λ e. e .bounds) fits afgis keeps (λ w few b e s h. joined (runs (afgis w) b e s 0 .env) (run-keeps w few b e s 0 h))
 
