@@ -177,7 +177,7 @@ static void check_something(void)
 {
     if (one_in(20))
         check_fresh();
-    else if (one_in(120))
+    else if (one_in(30))
         check_slices();
     else if (one_in(120))
         check_two_panes();

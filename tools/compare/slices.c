@@ -54,12 +54,12 @@ static uint32_t next_slice(int kind)
     return kind == SLICES_OF_1 ? 1 : kind == SLICES_OF_7 ? 7 : below(13);
 }
 
-/* All of a budget, also behind the list's end or refusal; slices of any size may end with some of 0. */
+/* All of a budget. Behind the list's end or refusal the rest may come at once; slices of any size may end with some of 0. */
 static void add_slices(struct sum *sum, int kind, uint32_t budget)
 {
     do {
         uint32_t slice = next_slice(kind);
-        if (slice > budget)
+        if (slice > budget || (sum->number != 1 && one_in(2)))
             slice = budget;
         add_call(sum, slice);
         budget -= slice;
