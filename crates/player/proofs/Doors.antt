@@ -11,7 +11,7 @@ use borrow.Author.Tests.{leb-true, le-leb, lt-leb, eqb-true, eq-eqb, ne-eqb}
 use Rattle.raster.specs.declared.frame.Bounds.{Bounds}
 use Rattle.player.specs.Player.{verdict, Stops}
 use Rattle.player.specs.Run.{Answer, answer, runs}
-use Rattle.player.specs.Shown.{numberOf}
+use Rattle.player.specs.Shown.{verdictOf}
 use Rattle.player.specs.Hosted.{Request, Hosted, answered}
 use Rattle.player.specs.Door.{between, sizeFits, unless, doorOf}
 use Rattle.player.specs.Stands.{budgeted}
@@ -152,9 +152,9 @@ module _ (H : Hosted) (q : Request (H .Words)) (e : H .Env) (s : List ℕ) (d : 
   unfolding answered
   run-whole h = let k : H .door q e (length s) ≡ 0 = sym is ∙ h in rw k
 
--- a call that was let in answers the number of the state that it leaves
+-- a call that was let in answers the verdict of the state that it leaves
 pub says-state : (H : Hosted) → ((w : H .Words) → Stops (H .player w)) → (q : Request (H .Words)) (e : H .Env) (s : List ℕ) → H .door q e (length s) ≡ 0
-    → let a = answered H q e s in a .verdict .number ≡ numberOf (H .player (q .list) .state (a .env))
+    → let a = answered H q e s in a .verdict ≡ verdictOf (H .player (q .list) .state (a .env))
 says-state H stops q e s h =
-    subst (λ (a : Answer (H .Env)). a .verdict .number ≡ numberOf (H .player (q .list) .state (a .env))) (run-whole H q e s 0 (sym h) refl)
+    subst (λ (a : Answer (H .Env)). a .verdict ≡ verdictOf (H .player (q .list) .state (a .env))) (run-whole H q e s 0 (sym h) refl)
     (Runs.says-state (H .player (q .list)) (stops (q .list)) (q .budget) e s 0)

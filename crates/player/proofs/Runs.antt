@@ -10,7 +10,7 @@ use Rattle.player.specs.declared.State.{State}
 use Rattle.player.specs.declared.State.the-variants.{Running, Ended, Stopped}
 use Rattle.player.specs.Painting.{painted, drawn}
 use Rattle.player.specs.Player.{verdict, Outcome, done, refused, Player, Stops}
-use Rattle.player.specs.Shown.{numberOf}
+use Rattle.player.specs.Shown.{verdictOf}
 use Rattle.player.specs.Run.{Answer, answer, Done, paintings, by-state, by-opcode, runs, traced, trace}
 
 one-more : (n k d : ℕ) → n ≡ suc k + d → n ≡ k + suc d
@@ -44,27 +44,27 @@ module _ {E : Type 0} (P : Player E) where
   unfolding runs
   idle e s k = idle-state (P .state e) e s k
 
-  -- ---- the number that comes back is that of the state that is left
-  says-by-state : (q : State) (e : E) (s : List ℕ) (k : ℕ) (on : Answer E) → P .state e ≡ q → on .verdict .number ≡ numberOf (P .state (on .env))
-      → let a = by-state P q e s k on in a .verdict .number ≡ numberOf (P .state (a .env))
-  says-by-state Ended e s k on h f = sym (ap numberOf h)
-  says-by-state (Stopped v) e s k on h f = sym (ap numberOf h)
+  -- ---- the verdict that comes back is that of the state that is left
+  says-by-state : (q : State) (e : E) (s : List ℕ) (k : ℕ) (on : Answer E) → P .state e ≡ q → on .verdict ≡ verdictOf (P .state (on .env))
+      → let a = by-state P q e s k on in a .verdict ≡ verdictOf (P .state (a .env))
+  says-by-state Ended e s k on h f = sym (ap verdictOf h)
+  says-by-state (Stopped v) e s k on h f = sym (ap verdictOf h)
   says-by-state Running e s k on h f = f
 
   says-by-opcode : Stops P → (o : Outcome E) (e : E) (s : List ℕ) (k : ℕ) (on : E → List ℕ → ℕ → Answer E)
-      → ((e' : E) (s' : List ℕ) (j : ℕ) → on e' s' j .verdict .number ≡ numberOf (P .state (on e' s' j .env)))
-      → let a = by-opcode P o e s k on in a .verdict .number ≡ numberOf (P .state (a .env))
-  says-by-opcode stops (refused v) e s k on f = sym (ap numberOf (stops v e))
+      → ((e' : E) (s' : List ℕ) (j : ℕ) → on e' s' j .verdict ≡ verdictOf (P .state (on e' s' j .env)))
+      → let a = by-opcode P o e s k on in a .verdict ≡ verdictOf (P .state (a .env))
+  says-by-opcode stops (refused v) e s k on f = sym (ap verdictOf (stops v e))
   says-by-opcode stops (done e' p) e s k on f = f e' (painted p s) (suc k)
 
-  pub says-state : Stops P → (b : ℕ) (e : E) (s : List ℕ) (k : ℕ) → let a = runs P b e s k in a .verdict .number ≡ numberOf (P .state (a .env))
+  pub says-state : Stops P → (b : ℕ) (e : E) (s : List ℕ) (k : ℕ) → let a = runs P b e s k in a .verdict ≡ verdictOf (P .state (a .env))
   unfolding runs
   says-state stops zero e s k = at-zero (P .state e) refl
     where
-      at-zero : (q : State) → P .state e ≡ q → let a = by-state P q e s k (answer (verdict 1) e s k) in a .verdict .number ≡ numberOf (P .state (a .env))
-      at-zero Ended h = sym (ap numberOf h)
-      at-zero (Stopped v) h = sym (ap numberOf h)
-      at-zero Running h = sym (ap numberOf h)
+      at-zero : (q : State) → P .state e ≡ q → let a = by-state P q e s k (answer (verdict 1) e s k) in a .verdict ≡ verdictOf (P .state (a .env))
+      at-zero Ended h = sym (ap verdictOf h)
+      at-zero (Stopped v) h = sym (ap verdictOf h)
+      at-zero Running h = sym (ap verdictOf h)
   says-state stops (suc b) e s k =
       says-by-state (P .state e) e s k _ refl (says-by-opcode stops (P .step e) e s k (λ e' s' j. runs P b e' s' j) (says-state stops b))
 

@@ -10,8 +10,9 @@ use borrow.Author.Tests.{ltb-false, le-ltb}
 use Rattle.raster.specs.declared.frame.Bounds.{Bounds}
 use Rattle.raster.specs.Frame.{drawable}
 use Rattle.raster.specs.Paint.{recolourFrom, paint}
+use Rattle.player.specs.declared.Verdict.{Verdict}
 use Rattle.player.specs.Reply.{Got}
-use Rattle.player.specs.Player.{verdict, Outcome, refused, LeavesUnstopped, OnlyRefusalsStop}
+use Rattle.player.specs.Player.{fault, Outcome, refused, LeavesUnstopped, OnlyRefusalsStop}
 use Rattle.player.specs.Run.{Answer, Told, runs}
 use Rattle.player.specs.Pane.{Apart}
 use Rattle.player.specs.Mixing.{Callable, one, two, Mix, ones, twos, Mixed, mixed}
@@ -40,7 +41,7 @@ toy-keeps : (word : ℕ → Env → Outcome Env) → ((n : ℕ) (e : Env) → St
 toy-keeps word h w =
     record { steps = λ e. stays (leb (length w) (e .at)) e (word (getD w (e .at) 0) e) (h (getD w (e .at) 0) e); stops = λ v e. refl }
   where
-    stays : (b : Bool) (e : Env) (o : Outcome Env) → Stays bounds-of e o → Stays bounds-of e (cond b (refused (verdict 20)) o)
+    stays : (b : Bool) (e : Env) (o : Outcome Env) → Stays bounds-of e o → Stays bounds-of e (cond b (refused (fault 20 (record { 0 = e .at }))) o)
     stays true e o h = tt
     stays false e o h = h
 
@@ -109,19 +110,22 @@ lets-in-less q e bytes k l h = less (eqb bytes (e .frame .bounds .height * e .fr
 only-refusals-stop : (w : List ℕ) → OnlyRefusalsStop (toy pen w)
 only-refusals-stop w e h = by (leb (length w) (e .at))
   where
-    by : (t : Bool) → LeavesUnstopped (toy pen w) (cond t (refused (verdict 20)) (pen (getD w (e .at) 0) e))
+    by : (t : Bool) → LeavesUnstopped (toy pen w) (cond t (refused (fault 20 (record { 0 = e .at }))) (pen (getD w (e .at) 0) e))
     by true = tt
     by false = tt
 
--- three dots stand, and the end of the list is refused
-past-the-end : EndsStopped (toys pen) (ask (0 ∷ 1 ∷ 2 ∷ []) 9) east blank (verdict 20)
+-- three dots stand, and the end of the list is refused, where the fourth word was due
+abbrev ended : Verdict
+ended = fault 20 (record { 0 = 3 })
+
+past-the-end : EndsStopped (toys pen) (ask (0 ∷ 1 ∷ 2 ∷ []) 9) east blank ended
 unfolding answered runs
 past-the-end = record { entered = refl; began = refl; stopped = refl }
 
-pub dots-stand : Stands (toy pen (0 ∷ 1 ∷ 2 ∷ [])) (verdict 20) (answered (toys pen) (ask (0 ∷ 1 ∷ 2 ∷ []) 9) east blank)
+pub dots-stand : Stands (toy pen (0 ∷ 1 ∷ 2 ∷ [])) ended (answered (toys pen) (ask (0 ∷ 1 ∷ 2 ∷ []) 9) east blank)
     (answered (toys pen) (ask (0 ∷ 1 ∷ 2 ∷ []) 3) east blank)
 unfolding answered runs
-dots-stand = stands (toys pen) lets-in-less (λ w v e. refl) only-refusals-stop (ask (0 ∷ 1 ∷ 2 ∷ []) 9) east blank (verdict 20) past-the-end
+dots-stand = stands (toys pen) lets-in-less (λ w v e. refl) only-refusals-stop (ask (0 ∷ 1 ∷ 2 ∷ []) 9) east blank ended past-the-end
 
 -- ---- slices: the brush's door is steady, so it may be cut
 brush-steady : Steady (toys brush)

@@ -15,9 +15,9 @@ use Rattle.player.specs.declared.Verdict.{Verdict}
 use Rattle.player.specs.declared.State.{State}
 use Rattle.player.specs.declared.State.the-variants.{Running, Ended, Stopped}
 use Rattle.player.specs.Painting.{Painting, painted}
-use Rattle.player.specs.Player.{verdict, Outcome, done, refused, Player}
+use Rattle.player.specs.Player.{Outcome, done, refused, Player}
 use Rattle.player.specs.Run.{Answer, answer, by-state, by-opcode, runs}
-use Rattle.player.specs.Shown.{Marks, marks, unmarked, marked, went, stayed, shown, brushed, seen, numberOf}
+use Rattle.player.specs.Shown.{Marks, marks, unmarked, marked, went, stayed, shown, brushed, by-number, seen, verdictOf}
 
 one-less : (b k : ℕ) → k < b → b - k ≡ suc (b - (k + 1))
 one-less b k h = omega arith
@@ -33,20 +33,26 @@ marked-is p s = refl
 unmarked-is : (b : Bounds) (s : List ℕ) → s ≡ marked (unmarked b) s
 unmarked-is b s = none (λ k. false) 0 s (λ k l t. t)
 
--- ---- the number q that came back, with the environment e and the brush p
-module _ {E : Type 0} (frame : E → Frame) (e : E) (p : List ℕ) where
-  quiet : (q : ℕ) → q ≤ 1 → (q ≡ 1 → ⊥) → went e (unmarked (frame e .bounds)) ≡ seen frame q e p
-  quiet zero h n = refl
-  quiet (suc zero) h n = absurd (n refl)
-  quiet (suc (suc q)) h n = absurd (omega (arith, h))
+-- ---- the verdict v that came back, with the environment e and the brush p
+module _ {E : Type 0} (frame : E → Frame) (e : E) (p : List ℕ) (v : Verdict) where
+  quiet : v .number ≤ 1 → (v .number ≡ 1 → ⊥) → went e (unmarked (frame e .bounds)) ≡ seen frame v e p
+  quiet = by (v .number)
+    where
+      by : (n : ℕ) → n ≤ 1 → (n ≡ 1 → ⊥) → went e (unmarked (frame e .bounds)) ≡ by-number frame n v e p
+      by zero h n = refl
+      by (suc zero) h n = absurd (n refl)
+      by (suc (suc q)) h n = absurd (omega (arith, h))
 
-  pub painting : {q : ℕ} → q ≡ 1 → went e (marks (brushed (frame e) p)) ≡ seen frame q e p
+  pub painting : v .number ≡ 1 → went e (marks (brushed (frame e) p)) ≡ seen frame v e p
   painting z = rw z
 
-  pub not-carried-out : (q : ℕ) → 1 < q → stayed (verdict q) e ≡ seen frame q e p
-  not-carried-out zero n = absurd (omega (arith, n))
-  not-carried-out (suc zero) n = absurd (omega (arith, n))
-  not-carried-out (suc (suc q)) n = refl
+  pub not-carried-out : 1 < v .number → stayed v e ≡ seen frame v e p
+  not-carried-out = by (v .number)
+    where
+      by : (n : ℕ) → 1 < n → stayed v e ≡ by-number frame n v e p
+      by zero n = absurd (omega (arith, n))
+      by (suc zero) n = absurd (omega (arith, n))
+      by (suc (suc q)) n = refl
 
 module _ {E : Type 0} (P : Player E) where
   -- an opcode that was carried out in e, with the screen s: e₁ and s₁ are left
@@ -58,28 +64,28 @@ module _ {E : Type 0} (P : Player E) where
   pub turned-long : {e : E} {s : List ℕ} {e₁ : E} {s₁ : List ℕ} → Turned e s e₁ s₁ → length s₁ ≡ length s
   turned-long {s = s} t = ap length (t .screen) ∙ length-recolour _ _ s
 
-  module _ (frame : E → Frame) (e : E) (s : List ℕ) (q : ℕ) (e₁ : E) (p : List ℕ) (as-shown : seen frame q e₁ p ≡ shown (P .step e) e) {s₁ : List ℕ} where
+  module _ (frame : E → Frame) (e : E) (s : List ℕ) (v : Verdict) (e₁ : E) (p : List ℕ) (as-shown : seen frame v e₁ p ≡ shown (P .step e) e) {s₁ : List ℕ} where
     -- 1 came back, and what the brush holds was painted
-    pub turned-painting : q ≡ 1 → {f : Frame} → f ≡ frame e₁ → s₁ ≡ paint f (shapeOf p) (colourOf p) s → Turned e s e₁ s₁
+    pub turned-painting : v .number ≡ 1 → {f : Frame} → f ≡ frame e₁ → s₁ ≡ paint f (shapeOf p) (colourOf p) s → Turned e s e₁ s₁
     turned-painting z is x =
         record {
           dots = marks (brushed (frame e₁) p);
           screen = x ∙ (ap (λ (g : Frame). paint g (shapeOf p) (colourOf p) s) is ∙ sym (marked-is (brushed (frame e₁) p) s));
-          shows = painting frame e₁ p z ∙ as-shown;
+          shows = painting frame e₁ p v z ∙ as-shown;
         }
 
     -- 0 came back, and nothing was
-    pub turned-quiet : q ≤ 1 → (q ≡ 1 → ⊥) → s₁ ≡ s → Turned e s e₁ s₁
+    pub turned-quiet : v .number ≤ 1 → (v .number ≡ 1 → ⊥) → s₁ ≡ s → Turned e s e₁ s₁
     turned-quiet h n x =
         let b = frame e₁ .bounds in
-        record { dots = unmarked b; screen = x ∙ unmarked-is b s; shows = quiet frame e₁ p q h n ∙ as-shown }
+        record { dots = unmarked b; screen = x ∙ unmarked-is b s; shows = quiet frame e₁ p v h n ∙ as-shown }
 
 module _ {E : Type 0} (P : Player E) (left : ℕ) (e : E) (s : List ℕ) (k : ℕ) where
   abbrev turn : State → Outcome E → Answer E
   turn q o = by-state P q e s k (by-opcode P o e s k (λ e' s' j. runs P left e' s' j))
 
-  -- a state that does not run answers its number
-  rests : (q : State) → P .state e ≡ q → (q ≡ Running → ⊥) → answer (verdict (numberOf (P .state e))) e s k ≡ runs P (suc left) e s k
+  -- a state that does not run answers its verdict
+  rests : (q : State) → P .state e ≡ q → (q ≡ Running → ⊥) → answer (verdictOf (P .state e)) e s k ≡ runs P (suc left) e s k
   unfolding runs
   rests Running h n = absurd (n refl)
   rests Ended h n = rw h
@@ -108,7 +114,7 @@ module _ {E : Type 0} (P : Player E) (b k : ℕ) (e : E) (s : List ℕ) (R : Ans
   more : k < b → R ≡ runs P (suc (b - (k + 1))) e s k
   more h = at ∙ ap (λ (n : ℕ). runs P n e s k) (one-less b k h)
 
-  pub rest : k < b → (P .state e ≡ Running → ⊥) → answer (verdict (numberOf (P .state e))) e s k ≡ R
+  pub rest : k < b → (P .state e ≡ Running → ⊥) → answer (verdictOf (P .state e)) e s k ≡ R
   rest h n = rests P (b - (k + 1)) e s k (P .state e) refl n ∙ sym (more h)
 
   pub go-on : (e₁ : E) (s₁ : List ℕ) → Turned P e s e₁ s₁ → k < b → P .state e ≡ Running → R ≡ runs P (b - (k + 1)) e₁ s₁ (k + 1)
@@ -120,11 +126,11 @@ module _ {E : Type 0} (P : Player E) (b k : ℕ) (e : E) (s : List ℕ) (R : Ans
   pub stop : (v : Verdict) (e₁ : E) → k < b → P .state e ≡ Running → stayed v e₁ ≡ shown (P .step e) e → answer v (P .stop v e₁) s k ≡ R
   stop v e₁ h q d = sym (more h ∙ stops P (b - (k + 1)) e s k v e₁ q (P .step e) refl d)
 
-  pub used-up : b ≤ k → answer (verdict (numberOf (P .state e))) e s k ≡ R
+  pub used-up : b ≤ k → answer (verdictOf (P .state e)) e s k ≡ R
   unfolding runs
   used-up h = at-state (P .state e) refl ∙ sym (at ∙ ap (λ (n : ℕ). runs P n e s k) (none-left b k h))
     where
-      at-state : (q : State) → P .state e ≡ q → answer (verdict (numberOf (P .state e))) e s k ≡ runs P 0 e s k
+      at-state : (q : State) → P .state e ≡ q → answer (verdictOf (P .state e)) e s k ≡ runs P 0 e s k
       at-state Running q = rw q
       at-state Ended q = rw q
       at-state (Stopped v) q = rw q

@@ -1,13 +1,19 @@
 -- What any player is.
 use Prim.Native.Nat.{ℕ}
 use mathlib.Core.Path.{_≡_}
+use Rattle.numbers.specs.declared.place.WordIndex.{WordIndex}
 use Rattle.player.specs.declared.Verdict.{Verdict}
 use Rattle.player.specs.declared.State.{State}
 use Rattle.player.specs.declared.State.the-variants.{Running, Ended, Stopped}
 use Rattle.player.specs.Painting.{Painting}
 
+-- a refusal's number, and the index of the word at fault
+abbrev pub fault : ℕ → WordIndex → Verdict
+fault n i = record { number = n; place = i }
+
+-- a number that carries 0
 abbrev pub verdict : ℕ → Verdict
-verdict n = record { number = n }
+verdict n = fault n (record { 0 = 0 })
 
 -- what becomes of an opcode: it is carried out, with the environment after it and what it paints, or refused
 pub data Outcome (E : Type 0) : Type 0 where

@@ -44,14 +44,17 @@ shown (refused v) e = stayed v e
 abbrev pub brushed : Frame → List ℕ → Painting
 brushed f p = record { frame = f; shape = shapeOf p; colour = colourOf p }
 
--- what a program hands back, with the environment and the brush that it leaves: 0, nothing is painted; 1, what the brush holds; or a refusal's number
-abbrev pub seen : {E : Type 0} → (E → Frame) → ℕ → E → List ℕ → Shown E
-seen frame zero e p = went e (unmarked (frame e .bounds))
-seen frame (suc zero) e p = went e (marks (brushed (frame e) p))
-seen frame (suc (suc n)) e p = stayed (verdict (suc (suc n))) e
+abbrev pub by-number : {E : Type 0} → (E → Frame) → ℕ → Verdict → E → List ℕ → Shown E
+by-number frame zero v e p = went e (unmarked (frame e .bounds))
+by-number frame (suc zero) v e p = went e (marks (brushed (frame e) p))
+by-number frame (suc (suc n)) v e p = stayed v e
+
+-- what a program hands back, with the environment and the brush that it leaves: 0, nothing is painted; 1, what the brush holds; or a refusal
+abbrev pub seen : {E : Type 0} → (E → Frame) → Verdict → E → List ℕ → Shown E
+seen frame v e p = by-number frame (v .number) v e p
 
 -- ---- what a state answers; of one that still runs, that the budget is used up
-abbrev pub numberOf : State → ℕ
-numberOf Running = 1
-numberOf Ended = 0
-numberOf (Stopped v) = v .number
+abbrev pub verdictOf : State → Verdict
+verdictOf Running = verdict 1
+verdictOf Ended = verdict 0
+verdictOf (Stopped v) = v

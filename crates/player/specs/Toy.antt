@@ -10,7 +10,7 @@ use Rattle.raster.specs.Shapes.{dot, all}
 use Rattle.player.specs.declared.State.{State}
 use Rattle.player.specs.declared.State.the-variants.{Running, Ended, Stopped}
 use Rattle.player.specs.Painting.{Painting, nothing}
-use Rattle.player.specs.Player.{verdict, Outcome, done, refused, Player}
+use Rattle.player.specs.Player.{fault, Outcome, done, refused, Player}
 use Rattle.player.specs.Hosted.{Request, Hosted}
 
 -- the environment of both; `at` is the index of the next word
@@ -56,13 +56,13 @@ brush (suc (suc n)) e = done (past (e .frame) Running e) (fill (e .frame) (suc (
 abbrev pub pen : ℕ → Env → Outcome Env
 pen x e = done (past (e .frame) Running e) (record { frame = e .frame; shape = dot (record { x = pos x; y = pos x }); colour = 9 })
 
--- the player whose words do this: 20 past the list's end
+-- the player whose words do this: 20 past the list's end, where a word was due
 abbrev pub toy : (ℕ → Env → Outcome Env) → List ℕ → Player Env
 toy word w =
     record {
       state = λ e. e .state;
       stop = λ v e. record { frame = e .frame; at = e .at; state = Stopped v };
-      step = λ e. cond (leb (length w) (e .at)) (refused (verdict 20)) (word (getD w (e .at) 0) e);
+      step = λ e. cond (leb (length w) (e .at)) (refused (fault 20 (record { 0 = e .at }))) (word (getD w (e .at) 0) e);
     }
 
 -- the door of all: 11 and 14

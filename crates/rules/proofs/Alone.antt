@@ -12,7 +12,7 @@ use Rattle.player.specs.Undisturbed.{Undisturbed}
 use Rattle.player.specs.Hosted.{callable}
 use Rattle.player.specs.Keeps.{Stays, Keeps}
 use Rattle.player.proofs.Hosts
-use Rattle.rules.specs.Types.{Target, At, Refused, Bounds, Operands}
+use Rattle.rules.specs.Types.{WordIndex, Target, At, Refused, Bounds, Operands}
 use Rattle.rules.specs.Op as Op
 use Rattle.rules.specs.Meaning.{Meaning, Unknown, Known, meaning}
 use Rattle.rules.specs.Table.{formOf}
@@ -69,23 +69,23 @@ ruled-keeps Unknown w e = refl
 ruled-keeps (Known op s) w e = rule-keeps op _ _ _
 
 -- ---- a check refuses, and a refusal does nothing
-checked : (n : ℕ) (b : Bool) (e : Env) (x : Outcome Env) → Stays bounds e x → Stays bounds e (check n b x)
-checked n true e x h = tt
-checked n false e x h = h
+checked : (n : ℕ) (i : WordIndex) (b : Bool) (e : Env) (x : Outcome Env) → Stays bounds e x → Stays bounds e (check n i b x)
+checked n i true e x h = tt
+checked n i false e x h = h
 
 stays : (m : Meaning) (r : Rule) (w : List ℕ) (e : Env) → r .env .bounds ≡ e .bounds → Stays bounds e (judged m r w e)
 unfolding carried
 stays m r w e h =
-    checked 20 (leb (length w) (e .flow .counter .0)) e _
-    (checked 21 (unknown m) e _
-    (checked 22 (cut m w (e .flow .counter .0)) e _
-    (checked 23 (misnamed m w (e .flow .counter .0)) e _
-    (checked 24 (r .breaks 24) e _
-    (checked 25 (r .breaks 25) e _
-    (checked 26 (r .breaks 26) e _
-    (checked 27 (r .breaks 27) e _
-    (checked 28 (r .breaks 28) e _
-    (checked 29 (r .breaks 29) e _ (refl, h))))))))))
+    checked 20 _ (leb (length w) (e .flow .counter .0)) e _
+    (checked 21 _ (unknown m) e _
+    (checked 22 _ (cut m w (e .flow .counter .0)) e _
+    (checked 23 _ (misnamed m w (e .flow .counter .0)) e _
+    (checked 24 _ (r .breaks 24) e _
+    (checked 25 _ (r .breaks 25) e _
+    (checked 26 _ (r .breaks 26) e _
+    (checked 27 _ (r .breaks 27) e _
+    (checked 28 _ (r .breaks 28) e _
+    (checked 29 _ (r .breaks 29) e _ (refl, h))))))))))
 
 pub keeps : (w : List ℕ) → Keeps bounds (afgis w)
 unfolding step

@@ -1,4 +1,4 @@
--- Document 01, 'Cases, whole answers': the starred cases with their variants, as one table of whole answers; some edges; and the seven conditions.
+-- Document 01, 'Cases, whole answers': the starred cases with their variants, as one table of whole answers; some edges; the places of 23; and the seven conditions.
 use Prim.Native.Nat.{ℕ, _-_, _^_}
 use mathlib.Core.Path.{_≡_, refl}
 use mathlib.Core.List.{List, [], _∷_, map}
@@ -11,7 +11,7 @@ use Rattle.raster.specs.Shapes.{someBelow}
 use Rattle.raster.specs.Frame.{drawable}
 use Rattle.raster.specs.Paint.{recolourFrom, paint}
 use Rattle.raster.specs.Line.{line, side}
-use Rattle.player.specs.Player.{verdict}
+use Rattle.player.specs.Player.{fault, verdict}
 use Rattle.player.specs.Run.{Answer, answer, runs}
 use Rattle.player.specs.Hosted.{answered}
 use Rattle.player.specs.Door.{doorOf}
@@ -36,15 +36,15 @@ e₂ = fresh (bounds 2)
 abbrev pub blank : List ℕ
 blank = replicate 15 0
 
--- ---- what is wanted: the counter at word n, Vn with a value, stopped with a number, ended at word n, and a variable's bits where its value is -n
+-- ---- what is wanted: the counter at word n, Vn with a value, stopped with a number at a place, ended at word n, and a variable's bits where its value is -n
 abbrev pub at : ℕ → Env → Env
 at n e = goto (record { 0 = n }) e
 
 abbrev pub var : ℕ → ℕ → Env → Env
 var n v e = put (record { 0 = n }) v e
 
-abbrev pub stopped : ℕ → Env → Env
-stopped n e = stated (Stopped (verdict n)) e
+abbrev pub stopped : ℕ → ℕ → Env → Env
+stopped n i e = stated (Stopped (fault n (record { 0 = i }))) e
 
 abbrev pub ended : ℕ → Env → Env
 ended n e = at n (stated Ended e)
@@ -74,7 +74,8 @@ slopedIn =
     0 ∷ 0 ∷ 15 ∷ 0 ∷ 0 ∷
     0 ∷ 0 ∷ 0 ∷ 15 ∷ 15 ∷ []
 
--- ---- the cases: the list, the number, the environment and the steps; from e₀ with budget 100, and no dot, unless said
+-- ---- the cases: the list, the number, the environment and the steps; from e₀ with budget 100, and no dot, unless said. A list that is stopped has its place
+-- behind the number, and the environment as it was
 pub record Case : Type 0 where
   pub words : List ℕ
   pub env : Env
@@ -84,6 +85,9 @@ pub record Case : Type 0 where
 abbrev pub case : List ℕ → ℕ → Env → ℕ → Case
 case w n e k = record { words = w; env = e₀; budget = 100; want = answer (verdict n) e blank k }
 
+abbrev pub stops : List ℕ → ℕ → ℕ → Env → ℕ → Case
+stops w n i e k = record { words = w; env = e₀; budget = 100; want = answer (fault n (record { 0 = i })) (stopped n i e) blank k }
+
 abbrev pub within : ℕ → Case → Case
 within b c = record { words = c.words; env = c.env; budget = b; want = c.want }
 
@@ -92,22 +96,22 @@ shows e s c = record { words = c.words; env = e; budget = c.budget; want = answe
 
 abbrev pub cases : List Case
 cases =
-    case [] 20 (stopped 20 e₀) 0 ∷  -- 1
+    stops [] 20 0 e₀ 0 ∷  -- 1
     case (0x0001 ∷ []) 0 (ended 1 e₀) 1 ∷  -- 2
     within 0 (case (0x0001 ∷ []) 1 e₀ 0) ∷
     case (0x0066 ∷ 0xFFFF ∷ 0x7FFF ∷ 0x0000 ∷ 0x005D ∷ 0x0000 ∷ 0x0001 ∷ []) 0 (ended 7 (var 0 (minus 2147483648) e₀)) 3 ∷  -- 3
-    case (0x0066 ∷ 0x0000 ∷ 0x0001 ∷ 0x0005 ∷ 0x0083 ∷ 0x0004 ∷ 0x0001 ∷ []) 25 (stopped 25 (at 4 (var 5 65536 e₀))) 1 ∷  -- 4
+    stops (0x0066 ∷ 0x0000 ∷ 0x0001 ∷ 0x0005 ∷ 0x0083 ∷ 0x0004 ∷ 0x0001 ∷ []) 25 4 (at 4 (var 5 65536 e₀)) 1 ∷  -- 4
     case (sevenByTwo 0x0045) 0 (ended 10 (var 0 (minus 3) (var 1 2 e₀))) 4 ∷  -- 5
     case (sevenByTwo 0x0081) 0 (ended 10 (var 0 (minus 1) (var 1 2 e₀))) 4 ∷
-    case (0x0045 ∷ 0x0001 ∷ 0x0000 ∷ []) 26 (stopped 26 e₀) 0 ∷  -- 6
-    case (0x0003 ∷ 0x0040 ∷ 0x0000 ∷ []) 23 (stopped 23 e₀) 0 ∷  -- 7
-    case (0x0003 ∷ 0x003F ∷ 0x0000 ∷ []) 20 (stopped 20 (at 3 e₀)) 1 ∷
-    case (0x0066 ∷ 0x0000 ∷ []) 22 (stopped 22 e₀) 0 ∷  -- 8
+    stops (0x0045 ∷ 0x0001 ∷ 0x0000 ∷ []) 26 0 e₀ 0 ∷  -- 6
+    stops (0x0003 ∷ 0x0040 ∷ 0x0000 ∷ []) 23 1 e₀ 0 ∷  -- 7
+    stops (0x0003 ∷ 0x003F ∷ 0x0000 ∷ []) 20 3 (at 3 e₀) 1 ∷
+    stops (0x0066 ∷ 0x0000 ∷ []) 22 0 e₀ 0 ∷  -- 8
     shows e₀ sloped (case slope 0 (ended 7 e₀) 2) ∷  -- 9
     shows e₂ slopedIn (case slope 0 (ended 7 e₂) 2) ∷  -- 10
-    case (0x010E ∷ 0xFFFE ∷ []) 28 (stopped 28 (stacked (replicate 16 (record { 0 = 2 })) e₀)) 16 ∷  -- 11
+    stops (0x010E ∷ 0xFFFE ∷ []) 28 0 (stacked (replicate 16 (record { 0 = 2 })) e₀) 16 ∷  -- 11
     within 16 (case (0x010E ∷ 0xFFFE ∷ []) 1 (stacked (replicate 16 (record { 0 = 2 })) e₀) 16) ∷
-    case (0x000E ∷ 0x0008 ∷ 0x0000 ∷ []) 27 (stopped 27 e₀) 0 ∷  -- 12
+    stops (0x000E ∷ 0x0008 ∷ 0x0000 ∷ []) 27 0 e₀ 0 ∷  -- 12
     []
 
 -- ---- beside document 01's list: where an order or an edge shows
@@ -128,7 +132,22 @@ edges =
     0 ∷ 7 ∷ 7 ∷ 7 ∷ 0 ∷
     0 ∷ 0 ∷ 0 ∷ 0 ∷ 0 ∷ [])
     (case cleared 0 (ended 12 (clipped 1 (windowed (record { x0 = pos 1; y0 = pos 0; x1 = pos 3; y1 = pos 1 }) e₀))) 4) ∷
-    case wrongTwice 24 (stopped 24 (at 7 (var 0 1 (var 1 65536 e₀)))) 2 ∷
+    stops wrongTwice 24 7 (at 7 (var 0 1 (var 1 65536 e₀))) 2 ∷
+    []
+
+-- ---- the places of 23: behind a NOOP, the first operand word that names a variable above 63, or one with such followers
+abbrev pub misnamed : List ℕ → ℕ → Case
+misnamed w i = stops (0x0000 ∷ w) 23 i (at 1 e₀) 1
+
+abbrev pub places : List Case
+places =
+    misnamed (0x005D ∷ 0x0040 ∷ []) 2 ∷  -- INCV V64
+    misnamed (0x0003 ∷ 0x0040 ∷ 0x003F ∷ []) 2 ∷  -- ADVV V64 V63
+    misnamed (0x0003 ∷ 0x003F ∷ 0x0040 ∷ []) 3 ∷  -- ADVV V63 V64
+    misnamed (0x0003 ∷ 0x0040 ∷ 0x0040 ∷ []) 2 ∷  -- ADVV V64 V64
+    misnamed (0x0065 ∷ 0x0040 ∷ 0x0040 ∷ []) 3 ∷  -- LDIV 64 V64
+    misnamed (0x0002 ∷ 0x0040 ∷ 0x0040 ∷ 0x0040 ∷ []) 4 ∷  -- ADIV 4194368 V64
+    misnamed (0x0019 ∷ 0x003D ∷ []) 2 ∷  -- CLIPWINV V61, so V64
     []
 
 -- ---- the seven conditions, in order of their numbers
@@ -182,6 +201,10 @@ starred = refl
 pub edged : map played edges ≡ map (λ (c : Case). c.want) edges
 unfolding signed32 signed16 low32 inWord recolourFrom someBelow drawable paint line formOf carried step doorOf door answered runs
 edged = refl
+
+pub placed : map played places ≡ map (λ (c : Case). c.want) places
+unfolding formOf carried step recolourFrom drawable paint doorOf door answered runs inWord
+placed = refl
 
 pub conditioned : map played conditions ≡ map (λ (c : Case). c.want) conditions
 unfolding signed32 signed16 low32 allowed met inWord indexOf recolourFrom drawable paint formOf carried step doorOf door answered runs

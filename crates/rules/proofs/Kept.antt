@@ -10,19 +10,20 @@ use lib.IntN.{ℤ, pos, negsuc, _+ℤ_}
 use borrow.Author.Tests.{ltb-true, ltb-false, leb-true, leb-false, le-leb}
 use Rattle.numbers.specs.Number.{signed32}
 use Rattle.numbers.specs.Coordinate.{inWord}
-use Rattle.numbers.specs.Place.{wordOf, indexOf}
-use Rattle.player.specs.Player.{Outcome, refused, verdict}
+use Rattle.numbers.specs.Place.{past, wordOf, indexOf}
+use Rattle.player.specs.Player.{fault, Outcome, refused}
 use Rattle.player.proofs.Runs.{Leaves}
 use Rattle.rules.specs.Types.{WordIndex, BitAddress, Target, At, Refused, Bounds, Window, Dot, Operands, Stopped}
 use Rattle.rules.specs.Op as Op
 use Rattle.rules.specs.Meaning.{Meaning, Unknown, Known, meaning}
 use Rattle.rules.specs.Table.{formOf}
-use Rattle.rules.specs.Operands.{at, operands, sizeOf, highest}
+use Rattle.rules.specs.Operands.{at, operands, sizeOf, highest, firstAbove}
 use Rattle.rules.specs.Environment.{Env, start, goto, onward, moved, clipped, windowed, stated, pushed, popped, top}
 use Rattle.rules.specs.Opcodes.{Rule, rule, taken, far, absolute, relative, reach, point, shifted}
 use Rattle.rules.specs.Step.{check, carried, ruled, stepAt, step, afgis}
 use Rattle.rules.specs.Door.{indices, between, windowFits}
 use Rattle.rules.proofs.Ranges.{both, one, other, neither, Fits}
+use Rattle.rules.proofs.Places.{within}
 
 near : (p : Dot) → far p ≡ false → (inWord (p .x) ≡ true) × (inWord (p .y) ≡ true)
 near p h = go (inWord (p .x)) (inWord (p .y)) h
@@ -145,34 +146,43 @@ module _ (o : Operands) (n : ℕ) (few : n ≤ 65536) where
   rule-keeps Op.LineBy e h f = placed e h (shifted (e .pen .position) (point (o .b) (o .c))) (neither (far (point (o .b) (o .c))) _ (f .1) .1)
   rule-keeps Op.Clear e h f = h
 
--- ---- a step: a check that refuses stops the environment with a number 20 to 29
+-- ---- a step: a check that refuses stops the environment with a number 20 to 29 and a place 0 to 65,536
 module _ (w : List ℕ) (few : length w ≤ 65536) (b : Bounds) (e : Env) (h : Fits b e) where
-  stopped : (n : ℕ) → between 20 29 n ≡ true → Fits b (stated (Stopped (verdict n)) e)
-  stopped n k = (h .0, h .1, h .2, k, h .4)
+  stopped : (n : ℕ) (i : WordIndex) → between 20 29 n ≡ true → leb (i .0) 65536 ≡ true → Fits b (stated (Stopped (fault n i)) e)
+  stopped n i k l = (h .0, h .1, h .2, both _ _ k l, h .4)
 
-  checked : (n : ℕ) (t : Bool) (x : Outcome Env) → between 20 29 n ≡ true → (t ≡ false → Leaves (afgis w) (Fits b) e x)
-      → Leaves (afgis w) (Fits b) e (check n t x)
-  checked n true x k f = stopped n k
-  checked n false x k f = f refl
+  checked : (n : ℕ) (i : WordIndex) (t : Bool) (x : Outcome Env) → between 20 29 n ≡ true → leb (i .0) 65536 ≡ true
+      → (t ≡ false → Leaves (afgis w) (Fits b) e x) → Leaves (afgis w) (Fits b) e (check n i t x)
+  checked n i true x k l f = stopped n i k l
+  checked n i false x k l f = f refl
+
+  abbrev pc : WordIndex
+  pc = e .flow .counter
+
+  -- refused where the opcode begins, or was due
+  here : (n : ℕ) (t : Bool) (x : Outcome Env) → between 20 29 n ≡ true → (t ≡ false → Leaves (afgis w) (Fits b) e x)
+      → Leaves (afgis w) (Fits b) e (check n pc t x)
+  here n t x k f = checked n pc t x k (h .2 .counter) f
 
   at-meaning : (m : Meaning) → Leaves (afgis w) (Fits b) e (stepAt m w e)
   unfolding carried
-  at-meaning Unknown = checked 20 (leb (length w) (e .flow .counter .0)) (refused (verdict 21)) refl (λ p. stopped 21 refl)
+  at-meaning Unknown = here 20 (leb (length w) (pc .0)) (refused (fault 21 pc)) refl (λ p. stopped 21 pc refl (h .2 .counter))
   at-meaning (Known op s) =
       let r = ruled (Known op s) w e in
-      let next = e .flow .counter .0 + sizeOf s in
-      checked 20 (leb (length w) (e .flow .counter .0)) _ refl
-      (λ p. checked 22 (ltb (length w) next) _ refl
-      (λ c. checked 23 (ltb 63 (highest s w (e .flow .counter .0) 1)) _ refl
-      (λ v. checked 24 (r .breaks 24) _ refl
-      (λ p24. checked 25 (r .breaks 25) _ refl
-      (λ p25. checked 26 (r .breaks 26) _ refl
-      (λ p26. checked 27 (r .breaks 27) _ refl
-      (λ p27. checked 28 (r .breaks 28) _ refl
-      (λ p28. checked 29 (r .breaks 29) _ refl
-      (λ p29.
+      let next = pc .0 + sizeOf s in
+      here 20 (leb (length w) (pc .0)) _ refl
+      (λ p. here 22 (ltb (length w) next) _ refl
+      (λ c.
       let room : next ≤ 65536 = omega (arith, few, ltb-false (length w) next c) in
-      rule-keeps (operands s w (e .flow .counter .0) (e .variables)) (length w) few op (onward (sizeOf s) e) (gone e h _ room) (p24, p25, p26, p27, p28, p29))))))))))
+      let inside : pc .0 + firstAbove s w (pc .0) 1 ≤ 65536 = omega (arith, room, within w (pc .0) s 1) in
+      checked 23 (past pc (firstAbove s w (pc .0) 1)) (ltb 63 (highest s w (pc .0) 1)) _ refl (le-leb _ _ inside)
+      (λ v. here 24 (r .breaks 24) _ refl
+      (λ p24. here 25 (r .breaks 25) _ refl
+      (λ p25. here 26 (r .breaks 26) _ refl
+      (λ p26. here 27 (r .breaks 27) _ refl
+      (λ p27. here 28 (r .breaks 28) _ refl
+      (λ p28. here 29 (r .breaks 29) _ refl
+      (λ p29. rule-keeps (operands s w (e .flow .counter .0) (e .variables)) (length w) few op (onward (sizeOf s) e) (gone e h _ room) (p24, p25, p26, p27, p28, p29))))))))))
 
   pub step-keeps : Leaves (afgis w) (Fits b) e (step w e)
   unfolding step

@@ -1,6 +1,7 @@
 pub mod TableLaws
 pub mod StackLaws
 pub mod Ranges
+pub mod Places
 pub mod Kept
 pub mod Alone
 pub mod DoorLaws

@@ -15,8 +15,8 @@ use Rattle.player.proofs.Stands as Player
 use Rattle.player.specs.declared.State.{State}
 use Rattle.player.specs.declared.State.the-variants.{Ended}
 use Rattle.player.specs.Run.{Answer}
-use Rattle.player.specs.Shown.{numberOf}
-use Rattle.rules.specs.Types.{Target, At, Refused, Running, Stopped, Operands}
+use Rattle.player.specs.Shown.{verdictOf}
+use Rattle.rules.specs.Types.{WordIndex, Target, At, Refused, Verdict, Running, Stopped, Operands}
 use Rattle.rules.specs.Op as Op
 use Rattle.rules.specs.Meaning.{Meaning, Unknown, Known, meaning}
 use Rattle.rules.specs.Table.{formOf}
@@ -74,23 +74,23 @@ ruled-goes Unknown w e h = h
 ruled-goes (Known op s) w e h = rule-goes op _ _ _ h
 
 module _ (w : List ℕ) where
-  checked : (n : ℕ) (b : Bool) (x : Outcome Env) → LeavesUnstopped (afgis w) x → LeavesUnstopped (afgis w) (check n b x)
-  checked n true x h = tt
-  checked n false x h = h
+  checked : (n : ℕ) (i : WordIndex) (b : Bool) (x : Outcome Env) → LeavesUnstopped (afgis w) x → LeavesUnstopped (afgis w) (check n i b x)
+  checked n i true x h = tt
+  checked n i false x h = h
 
   judged-goes : (m : Meaning) (r : Rule) (e : Env) → Going (r .env) → LeavesUnstopped (afgis w) (judged m r w e)
   unfolding carried
   judged-goes m r e h =
-      checked 20 (leb (length w) (e .flow .counter .0)) _
-      (checked 21 (unknown m) _
-      (checked 22 (cut m w (e .flow .counter .0)) _
-      (checked 23 (misnamed m w (e .flow .counter .0)) _
-      (checked 24 (r .breaks 24) _
-      (checked 25 (r .breaks 25) _
-      (checked 26 (r .breaks 26) _
-      (checked 27 (r .breaks 27) _
-      (checked 28 (r .breaks 28) _
-      (checked 29 (r .breaks 29) _ h)))))))))
+      checked 20 _ (leb (length w) (e .flow .counter .0)) _
+      (checked 21 _ (unknown m) _
+      (checked 22 _ (cut m w (e .flow .counter .0)) _
+      (checked 23 _ (misnamed m w (e .flow .counter .0)) _
+      (checked 24 _ (r .breaks 24) _
+      (checked 25 _ (r .breaks 25) _
+      (checked 26 _ (r .breaks 26) _
+      (checked 27 _ (r .breaks 27) _
+      (checked 28 _ (r .breaks 28) _
+      (checked 29 _ (r .breaks 29) _ h)))))))))
 
   only-refusals-stop : OnlyRefusalsStop (afgis w)
   unfolding step
@@ -104,17 +104,21 @@ lets-in-less : LetsInLess machine
 unfolding door
 lets-in-less q e bytes k l h = Doors.lets-in-less q (e .bounds) (fits e) bytes k l h
 
--- ---- a call that began running and answers n, 20 to 29
-module _ (w s : List ℕ) (e : Env) (budget n : ℕ) (began : e .state ≡ Running) (told : whole w s e budget .verdict .number ≡ n) (refusal : between 20 29 n ≡ true) where
+-- ---- a call that began running and answers a number 20 to 29
+module _ (w s : List ℕ) (e : Env) (budget : ℕ) (began : e .state ≡ Running) (refusal : between 20 29 (whole w s e budget .verdict .number) ≡ true) where
   abbrev x : Answer Env
   x = whole w s e budget
+
+  -- the refusal, with its place
+  abbrev v : Verdict
+  v = x .verdict
 
   -- the same call with a budget of just the steps that it counts
   abbrev y : Answer Env
   y = whole w s e (x .steps)
 
-  above : 20 ≤ n
-  above = leb-true 20 n (one _ _ refusal)
+  above : 20 ≤ v .number
+  above = leb-true 20 (v .number) (one _ _ refusal)
 
   -- the door's numbers are below 20
   entered : door (record { list = w; budget = budget }) e (length s) ≡ 0
@@ -124,24 +128,24 @@ module _ (w s : List ℕ) (e : Env) (budget n : ℕ) (began : e .state ≡ Runni
       by-door zero is = sym is
       by-door (suc d) is =
           let said = Doors.refused-whole machine (record { list = w; budget = budget }) e s (suc d) is (λ z. omega (arith, z)) in
-          let number : suc d ≡ n = ap (λ (a : Answer Env). a .verdict .number) said ∙ told in
+          let number : suc d ≡ v .number = ap (λ (a : Answer Env). a .verdict .number) said in
           absurd (omega (arith, number, above, is, at-most-14 (record { list = w; budget = budget }) e (length s)))
 
   -- a number from 20 on is that of a stopped state alone
-  ends : (q : State) → x .env .state ≡ q → numberOf q ≡ n → x .env .state ≡ Stopped (verdict n)
-  ends Running h z = absurd (omega (arith, z, above))
-  ends Ended h z = absurd (omega (arith, z, above))
-  ends (Stopped v) h z = h ∙ ap (λ (k : ℕ). Stopped (verdict k)) z
+  ends : (q : State) → x .env .state ≡ q → v ≡ verdictOf q → x .env .state ≡ Stopped v
+  ends Running h z = absurd (omega (arith, ap (λ (u : Verdict). u .number) z, above))
+  ends Ended h z = absurd (omega (arith, ap (λ (u : Verdict). u .number) z, above))
+  ends (Stopped u) h z = h ∙ ap Stopped (sym z)
 
-  stopped : x .env .state ≡ Stopped (verdict n)
-  stopped = ends (x .env .state) refl (sym (Doors.says-state machine (λ w v e. refl) (record { list = w; budget = budget }) e s entered) ∙ told)
+  stopped : x .env .state ≡ Stopped v
+  stopped = ends (x .env .state) refl (Doors.says-state machine (λ w v e. refl) (record { list = w; budget = budget }) e s entered)
 
-  pub stands : Stands (afgis w) (verdict n) x y
+  pub stands : Stands (afgis w) v x y
   stands =
-      Player.stands machine lets-in-less (λ w v e. refl) only-refusals-stop (record { list = w; budget = budget }) e s (verdict n)
+      Player.stands machine lets-in-less (λ w v e. refl) only-refusals-stop (record { list = w; budget = budget }) e s v
       (record { entered = entered; began = began; stopped = stopped })
 
   -- y is out of budget; x has its screen, its steps and, but for the state, its environment: so the refused opcode changed no variable and no pixel, and those
   -- before it stand
-  pub nothing-changed : (y .verdict ≡ verdict 1) × (x .screen ≡ y .screen) × (x .steps ≡ y .steps) × (x .env ≡ stated (Stopped (verdict n)) (y .env))
+  pub nothing-changed : (y .verdict ≡ verdict 1) × (x .screen ≡ y .screen) × (x .steps ≡ y .steps) × (x .env ≡ stated (Stopped v) (y .env))
   nothing-changed = let t = stands in (t .used-up, t .screen, t .steps, t .env)

@@ -1,4 +1,4 @@
--- No second answer meets the promise: number, every field of the environment, every byte of the screen, steps. Only what lies past the
+-- No second answer meets the promise: number, place, every field of the environment, every byte of the screen, steps. Only what lies past the
 -- last return stacked is free, which is no part of the environment.
 use Prim.Native.Nat.{ℕ}
 use mathlib.Core.Path.{_≡_, refl, sym, ap, _∙_}
@@ -7,32 +7,39 @@ use mathlib.Core.List.{List}
 use lib.ListN.{length}
 use lib.Dec.{eqb}
 use borrow.Author.Tests.{eqb-true}
-use Rattle.player.specs.Player.{verdict}
+use Rattle.player.specs.Player.{fault, verdict}
 use Rattle.player.specs.Run.{Answer, answer}
 use Rattle.player.specs.Hosted.{answered}
 use Rattle.player.specs.Door.{doorOf}
-use Rattle.rules.specs.Types.{Bounds, Running, Ended, Stopped}
+use Rattle.rules.specs.Types.{Bounds, Verdict, Running, Ended, Stopped}
 use Rattle.rules.specs.declared.environment.Env as Held
 use Rattle.rules.specs.declared.answer.Answer as Came
 use Rattle.rules.specs.declared.answer.Made as Made
-use Rattle.rules.specs.Environment.{Env, held, stateOf, byteOf, firsts}
+use Rattle.rules.specs.Environment.{Env, held, carries0, stateOf, kept, firsts}
 use Rattle.rules.specs.Door.{door, whole, said, Promise}
 use Rattle.rules.specs.Fresh.{zeros}
 use Rattle.rules.specs.Fresh as Fresh
+use Rattle.rules.proofs.Ranges.{one, other}
 use Rattle.rules.proofs.StackLaws.{length-firsts}
 
--- a state has one byte
-pub byte-state : (b : ℕ) → byteOf (stateOf b) ≡ b
+-- a state is kept in one way
+carried : (v : Verdict) (n : ℕ) → carries0 v n ≡ true → verdict n ≡ v
+carried v n h =
+    let number = eqb-true (v .number) n (one _ _ h) in
+    let place = eqb-true (v .place .0) 0 (other (eqb (v .number) n) _ h) in
+    λ i. record { number = sym number i; place = record { 0 = sym place i } }
+
+pub kept-state : (v : Verdict) → kept (stateOf v) ≡ v
 unfolding stateOf
-byte-state b = first (eqb b 0) refl
+kept-state v = first (carries0 v 0) refl
   where
-    second : (t : Bool) → eqb b 1 ≡ t → byteOf (cond t Ended (Stopped (verdict b))) ≡ b
-    second true h = sym (eqb-true b 1 h)
+    second : (t : Bool) → carries0 v 1 ≡ t → kept (cond t Ended (Stopped v)) ≡ v
+    second true h = carried v 1 h
     second false h = refl
 
-    first : (t : Bool) → eqb b 0 ≡ t → byteOf (cond t Running (cond (eqb b 1) Ended (Stopped (verdict b)))) ≡ b
-    first true h = sym (eqb-true b 0 h)
-    first false h = second (eqb b 1) refl
+    first : (t : Bool) → carries0 v 0 ≡ t → kept (cond t Running (cond (carries0 v 1) Ended (Stopped v))) ≡ v
+    first true h = carried v 0 h
+    first false h = second (carries0 v 1) refl
 
 -- all that the program's environment holds, but for what lies past the last return stacked
 pub record Alike (a b : Held.Env) : Type 0 where
@@ -54,8 +61,9 @@ alike a b h =
         second = h i .flow .second;
         counter = h i .flow .counter;
         depth = depth i;
+        place = state i .place;
         colour = h i .pen .colour;
-        state = state i;
+        state = state i .number;
       };
       variables = ap (λ (e : Env). e .variables) h;
       stack = ap (λ (e : Env). e .flow .stack) h;
@@ -66,12 +74,13 @@ alike a b h =
         sym (length-firsts (a .registers .depth) (a .stack))
         ∙ (ap (λ (e : Env). length (e .flow .stack)) h ∙ length-firsts (b .registers .depth) (b .stack))
 
-    state : a .registers .state ≡ b .registers .state
-    state = sym (byte-state (a .registers .state)) ∙ (ap (λ (e : Env). byteOf (e .state)) h ∙ byte-state (b .registers .state))
+    state : fault (a .registers .state) (a .registers .place) ≡ fault (b .registers .state) (b .registers .place)
+    state = sym (kept-state _) ∙ (ap (λ (e : Env). kept (e .state)) h ∙ kept-state _)
 
 -- two answers, with the screens that they leave, are the same
 pub record Agree (a b : Came.Answer) (s t : List ℕ) : Type 0 where
   pub number : a .number ≡ b .number
+  pub place : a .place ≡ b .place
   pub env : Alike (a .env) (b .env)
   pub screen : s ≡ t
   pub steps : a .steps ≡ b .steps
@@ -81,6 +90,7 @@ pub agree : (a b : Came.Answer) (s t : List ℕ) → said a s ≡ said b t → A
 agree a b s t r =
     record {
       number = ap (λ (x : Answer Env). x .verdict .number) r;
+      place = ap (λ (x : Answer Env). x .verdict .place) r;
       env = alike (a .env) (b .env) (ap (λ (x : Answer Env). x .env) r);
       screen = ap (λ (x : Answer Env). x .screen) r;
       steps = ap (λ (x : Answer Env). x .steps) r;

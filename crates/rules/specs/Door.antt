@@ -6,7 +6,7 @@ use mathlib.Core.List.{List, [], _∷_}
 use lib.ListN.{length}
 use lib.Dec.{leb}
 use Rattle.numbers.specs.Coordinate.{inWord}
-use Rattle.player.specs.Player.{verdict}
+use Rattle.player.specs.Player.{fault}
 use Rattle.player.specs.Run.{Answer, answer}
 use Rattle.player.specs.Hosted.{Request, Hosted, answered}
 use Rattle.player.specs.Door.{doorOf}
@@ -32,11 +32,11 @@ indices (i ∷ is) = leb (i .0) 65536 && indices is
 abbrev pub stackFits : List WordIndex → Bool
 stackFits st = leb (length st) 16 && indices st
 
--- running, ended, or stopped with a number 20 to 29
+-- running, ended, or stopped with a number 20 to 29 at a place 0 to 65,536
 abbrev pub stateFits : State → Bool
 stateFits Running = true
 stateFits Ended = true
-stateFits (Stopped v) = between 20 29 v.number
+stateFits (Stopped v) = between 20 29 v.number && leb (v .place .0) 65536
 
 -- position and window are signed words, the clip mode is 0 to 2; any colour is in range by its type
 abbrev pub penFits : Pen → Bool
@@ -63,7 +63,7 @@ whole w s e budget = answered machine (record { list = w; budget = budget }) e s
 
 -- what a run promises: its answer, with the screen that it leaves, is the whole answer
 abbrev pub said : Came.Answer → List ℕ → Answer Env
-said a s = answer (verdict a.number) (held a.env) s a.steps
+said a s = answer (fault a.number a.place) (held a.env) s a.steps
 
 abbrev pub Promise : List ℕ → List ℕ → Held.Env → ℕ → Came.Answer → List ℕ → Type 0
 Promise w s e budget a t = said a t ≡ whole w s (held e) budget

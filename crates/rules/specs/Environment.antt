@@ -1,13 +1,13 @@
 -- Document 01, 'What a call is given': the environment, and what the program's struct stands for.
 -- A variable and a compared value are their 32 bits; `signed32` of numbers is their value. Coordinates are whole numbers.
 use Prim.Native.Nat.{ℕ, zero, suc, _-_}
-use mathlib.Core.Bool.{cond}
+use mathlib.Core.Bool.{Bool, cond, _&&_}
 use mathlib.Core.List.{List, [], _∷_, _++_}
 use lib.ListN.{length, take, set, getD}
 use lib.Dec.{eqb}
-use Rattle.player.specs.Player.{verdict}
+use Rattle.player.specs.Player.{fault, verdict}
 use Rattle.numbers.specs.Place.{past}
-use Rattle.rules.specs.Types.{VarNo, WordIndex, Bounds, Window, Frame, Dot, State, Running, Ended, Stopped, Registers}
+use Rattle.rules.specs.Types.{VarNo, WordIndex, Bounds, Window, Frame, Dot, Verdict, State, Running, Ended, Stopped, Registers}
 use Rattle.rules.specs.declared.environment.Env as Held
 
 -- how is drawn
@@ -93,14 +93,19 @@ frame e = record { bounds = e.bounds; mode = e .pen .mode; window = e .pen .wind
 
 -- ---- what the program's struct stands for
 
--- 0 running, 1 ended, any other byte stopped with that number
-unfoldable pub stateOf : ℕ → State
-stateOf b = cond (eqb b 0) Running (cond (eqb b 1) Ended (Stopped (verdict b)))
+-- this number, and the place 0
+abbrev pub carries0 : Verdict → ℕ → Bool
+carries0 v n = eqb v.number n && eqb (v .place .0) 0
 
-abbrev pub byteOf : State → ℕ
-byteOf Running = 0
-byteOf Ended = 1
-byteOf (Stopped v) = v.number
+-- 0 running and 1 ended, both with the place 0; any other number and place stopped with them
+unfoldable pub stateOf : Verdict → State
+stateOf v = cond (carries0 v 0) Running (cond (carries0 v 1) Ended (Stopped v))
+
+-- what a state is kept as
+abbrev pub kept : State → Verdict
+kept Running = verdict 0
+kept Ended = verdict 1
+kept (Stopped v) = v
 
 -- the first n of a list, and 0 for each that it lacks: so n is the length, whatever the list
 unfoldable pub firsts : ℕ → List WordIndex → List WordIndex
@@ -116,7 +121,7 @@ abbrev pub flowOf : Registers → List WordIndex → Flow
 flowOf r st = record { counter = r.counter; stack = firsts r.depth st; first = r.first; second = r.second }
 
 abbrev pub view : Bounds → Registers → List ℕ → List WordIndex → Env
-view b r vs st = env b vs (penOf r) (flowOf r st) (stateOf r.state)
+view b r vs st = env b vs (penOf r) (flowOf r st) (stateOf (fault r.state r.place))
 
 abbrev pub held : Held.Env → Env
 held e = view e.bounds e.registers e.variables e.stack

@@ -1,7 +1,9 @@
--- Document 01, 'Opcodes of the base': what stands behind an opcode word. Refusals 22 and 23 rest on `sizeOf` and `highest`.
+-- Document 01, 'Opcodes of the base': what stands behind an opcode word. Refusals 22 and 23 rest on `sizeOf`, `highest` and `firstAbove`.
 use Prim.Native.Nat.{ℕ, zero, suc, _+_, _-_, max}
+use mathlib.Core.Bool.{cond}
 use mathlib.Core.List.{List, [], _∷_, _++_}
 use lib.ListN.{getD, replicate}
+use lib.Dec.{ltb}
 use Rattle.numbers.specs.Number.{signed16, low32, longOf}
 use Rattle.rules.specs.Types.{Operands}
 
@@ -53,6 +55,11 @@ last dest v = v
 abbrev pub highest : Source → List ℕ → ℕ → ℕ → ℕ
 highest [] w pc k = 0
 highest (p ∷ ps) w pc k = max (last p (at w (pc + k))) (highest ps w pc (k + width p))
+
+-- where the first piece stands that names or implies a variable above 63, in words past the opcode at pc; where none does, past them all
+abbrev pub firstAbove : Source → List ℕ → ℕ → ℕ → ℕ
+firstAbove [] w pc k = k
+firstAbove (p ∷ ps) w pc k = cond (ltb 63 (last p (at w (pc + k)))) k (firstAbove ps w pc (k + width p))
 
 -- the variable that is named as destination
 abbrev pub named : Piece → ℕ → ℕ → ℕ

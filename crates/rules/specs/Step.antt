@@ -1,21 +1,22 @@
--- Document 01, 20 to 29 of 'Numbers that come back': one opcode, carried out or refused, and the player that takes such steps.
+-- Document 01, 20 to 29 of 'Numbers that come back', each with its place: one opcode, carried out or refused, and the player that takes such steps.
 use Prim.Native.Nat.{ℕ, _+_}
 use mathlib.Core.Bool.{Bool, true, false}
 use mathlib.Core.List.{List}
 use lib.ListN.{length}
 use lib.Dec.{ltb, leb}
-use Rattle.player.specs.Player.{Outcome, done, refused, Player, verdict}
-use Rattle.rules.specs.Types.{Stopped}
+use Rattle.numbers.specs.Place.{past}
+use Rattle.player.specs.Player.{fault, Outcome, done, refused, Player}
+use Rattle.rules.specs.Types.{WordIndex, Stopped}
 use Rattle.rules.specs.Meaning.{Meaning, Unknown, Known, meaning}
 use Rattle.rules.specs.Table.{formOf}
-use Rattle.rules.specs.Operands.{at, sizeOf, highest, operands}
+use Rattle.rules.specs.Operands.{at, sizeOf, highest, firstAbove, operands}
 use Rattle.rules.specs.Environment.{Env, onward, stated, frame}
 use Rattle.rules.specs.Opcodes.{Rule, leaves, rule}
 
--- refused with a number where the test holds; else what comes after
-abbrev pub check : ℕ → Bool → Outcome Env → Outcome Env
-check n true o = refused (verdict n)
-check n false o = o
+-- refused with a number and a place where the test holds; else what comes after
+abbrev pub check : ℕ → WordIndex → Bool → Outcome Env → Outcome Env
+check n i true o = refused (fault n i)
+check n i false o = o
 
 abbrev pub unknown : Meaning → Bool
 unknown Unknown = true
@@ -31,28 +32,36 @@ abbrev pub misnamed : Meaning → List ℕ → ℕ → Bool
 misnamed Unknown w pc = false
 misnamed (Known op s) w pc = ltb 63 (highest s w pc 1)
 
+-- the first operand word that names or implies one
+abbrev pub misnaming : Meaning → List ℕ → WordIndex → WordIndex
+misnaming Unknown w pc = pc
+misnaming (Known op s) w pc = past pc (firstAbove s w (pc .0) 1)
+
 abbrev pub ruled : Meaning → List ℕ → Env → Rule
 ruled Unknown w e = leaves e
 ruled (Known op s) w e = rule op (operands s w (e .flow .counter .0) e.variables) (length w) (onward (sizeOf s) e)
 
--- the end of the order: the lowest of 24 to 29 that a rule breaks, or what it says; what is painted goes by the environment before the opcode
+-- the end of the order: the lowest of 24 to 29 that a rule breaks, where the opcode begins, or what it says; what is painted goes by the environment before
+-- the opcode
 unfoldable pub carried : Rule → Env → Outcome Env
 carried r e =
-    check 24 (r .breaks 24)
-    (check 25 (r .breaks 25)
-    (check 26 (r .breaks 26)
-    (check 27 (r .breaks 27)
-    (check 28 (r .breaks 28)
-    (check 29 (r .breaks 29)
+    let pc = e .flow .counter in
+    check 24 pc (r .breaks 24)
+    (check 25 pc (r .breaks 25)
+    (check 26 pc (r .breaks 26)
+    (check 27 pc (r .breaks 27)
+    (check 28 pc (r .breaks 28)
+    (check 29 pc (r .breaks 29)
     (done r.env (record { frame = frame e; shape = r.shape; colour = r.colour })))))))
 
--- 20 to 29, lowest first
+-- 20 to 29, lowest first: where the opcode begins or was due, 23 at an operand
 abbrev pub judged : Meaning → Rule → List ℕ → Env → Outcome Env
 judged m r w e =
-    check 20 (leb (length w) (e .flow .counter .0))
-    (check 21 (unknown m)
-    (check 22 (cut m w (e .flow .counter .0))
-    (check 23 (misnamed m w (e .flow .counter .0))
+    let pc = e .flow .counter in
+    check 20 pc (leb (length w) (pc .0))
+    (check 21 pc (unknown m)
+    (check 22 pc (cut m w (pc .0))
+    (check 23 (misnaming m w pc) (misnamed m w (pc .0))
     (carried r e))))
 
 abbrev pub stepAt : Meaning → List ℕ → Env → Outcome Env

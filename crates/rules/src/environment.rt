@@ -6,10 +6,12 @@ use raster::dots::Dot;
 use raster::frame::Bounds;
 use raster::frame::Window;
 ghost use mathlib.Core.Path.{_≡_};
-ghost use Rattle.rules.specs.Environment.{stateOf};
+ghost use Rattle.player.specs.Player.{fault};
+ghost use Rattle.rules.specs.Environment.{carries0, stateOf};
 
 // What opcodes change beside the two arrays. The two values last compared are 32 bits each, the depth counts the stacked
-// returns, and the state is 0 running, 1 ended, 20 to 29 stopped with that number.
+// returns, and the state is 0 running, 1 ended, 20 to 29 stopped with that number. The place is that of the refusal, and 0 in
+// an environment that is not stopped.
 #[repr(C)]
 pub struct Registers {
     pub position: Dot,
@@ -19,6 +21,7 @@ pub struct Registers {
     pub second: u32,
     pub counter: WordIndex,
     pub depth: u32,
+    pub place: WordIndex,
     pub colour: u8,
     pub state: u8,
 }
@@ -32,15 +35,31 @@ pub struct Env {
     pub stack: [WordIndex; 16],
 }
 
-// The state that the environment's byte stands for.
-pub fn state_of(byte: u8) -> State
-    ensures { λ r. ⌜ r ≡ stateOf byte ⌝ }
+// A number with the place 0.
+fn carries_0(v: Verdict, number: u8) -> bool
+    ensures { λ r. ⌜ r ≡ carries0 v number ⌝ }
 {
-    if byte == 0 {
+    if v.number == number {
+        v.place.0 == 0
+    } else {
+        false
+    }
+}
+
+// The state that number and place stand for.
+pub fn state_of(r: Registers) -> State
+    ensures { λ s. ⌜ s ≡ stateOf (fault (r .state) (r .place)) ⌝ }
+{
+    let place = r.place;
+    let v = Verdict {
+        number: r.state,
+        place,
+    };
+    if carries_0(v, 0) {
         return State::Running;
     }
-    if byte == 1 {
+    if carries_0(v, 1) {
         return State::Ended;
     }
-    State::Stopped(Verdict { number: byte })
+    State::Stopped(v)
 }

@@ -1,5 +1,6 @@
--- `rules::environment::state_of` meets its contract.
-use borrow.Author.Tests.{eq-eqb, ne-eqb}
+-- `state_of`: running and ended are asked for first.
+use mathlib.Core.Path.{sym, _∙_}
+use borrow.Author.Needs.{needs}
 use Rattle.rules.specs.Environment.{stateOf}
 use Rattle.rules.proofs.environment.state_of.Statement.{statement}
 use Rattle.rules.proofs.environment.state_of.Tie as tie
@@ -9,6 +10,8 @@ unfolding stateOf
 state-of-spec =
     tie.close
     (tie.spec
-    (λ c. simp (eq-eqb _ _ (c .if1 .taken)))
-    (λ c. simp (ne-eqb _ _ (c .before .if1 .left), eq-eqb _ _ (c .if2 .taken)))
-    (λ c. simp (ne-eqb _ _ (c .before .if1 .left), ne-eqb _ _ (c .if2 .left))))
+    (λ c κs. search needs)
+    (λ c. rw (sym (c .before .carries-0 .ensures) ∙ c .if1 .taken))
+    (λ c κs. search needs)
+    (λ c. rw (sym (c .before .before .before .carries-0 .ensures) ∙ c .before .before .if1 .left, sym (c .before .carries-02 .ensures) ∙ c .if2 .taken))
+    (λ c. rw (sym (c .before .before .before .carries-0 .ensures) ∙ c .before .before .if1 .left, sym (c .before .carries-02 .ensures) ∙ c .if2 .left)))
