@@ -1,5 +1,5 @@
 -- Operands by the pieces that they come from: refused where the list ends inside them or a variable named or implied is above 63, else read.
-use Prim.Native.Nat.{ℕ, zero, suc, _+_, _<_, _≤_, max}
+use Prim.Native.Nat.{ℕ, zero, suc, _+_, _-_, _<_, _≤_, max}
 use mathlib.Core.Path.{_≡_, refl, ap, _∙_}
 use mathlib.Core.Bool.{Bool, true, false, cond}
 use mathlib.Core.List.{List, [], _∷_, append-nil}
@@ -10,9 +10,10 @@ use borrow.Author.Tests.{lt-ltb, le-ltb, ltb-true, ltb-false}
 use Rattle.numbers.specs.declared.place.VarNo.{VarNo}
 use Rattle.numbers.specs.declared.place.WordIndex.{WordIndex}
 use Rattle.numbers.specs.Place as Place
+use Rattle.player.specs.Player.{fault}
 use Rattle.numbers.specs.Number.{signed16, low32}
 use Rattle.rules.specs.declared.opcode.Operands.{Operands}
-use Rattle.rules.specs.Operands.{Source, from, plain, at, sizeOf, highest, following, values, destination, gathered}
+use Rattle.rules.specs.Operands.{Source, from, dest, plain, at, sizeOf, highest, firstAbove, following, values, destination, gathered}
 use Rattle.fetch.specs.declared.source.Taken.the-variants.{Refused, Got}
 use Rattle.fetch.specs.Stages.{ontoOf, takenOf}
 
@@ -53,27 +54,28 @@ pub all-words : (n : ℕ) → sizeOf (plain n) ≡ 1 + n
 all-words zero = refl
 all-words (suc n) = omega (arith, all-words n)
 
--- ---- a destination d, above 63 or not, and v the variable that it names
-module _ (a d : ℕ) (v : VarNo) (is : v .0 ≡ d) (next : WordIndex) where
-  pub above : Place.above v 1 ≡ true → Refused 23 ≡ ontoOf a (record { 0 = d }) next
+-- ---- a destination d, above 63 or not, which word i names, and v the variable that it is
+module _ (i : WordIndex) (a d : ℕ) (v : VarNo) (is : v .0 ≡ d) (next : WordIndex) where
+  pub above : Place.above v 1 ≡ true → Refused (fault 23 i) ≡ ontoOf i a (record { 0 = d }) next
   unfolding ontoOf
   above h = rw (← is, h)
 
   pub below : {n : WordIndex} → n .0 ≡ next .0 → Place.above v 1 ≡ false
-      → Got (record { a = a; b = 0; c = 0; d = 0; e = 0; dest = v }) n ≡ ontoOf a (record { 0 = d }) next
+      → Got (record { a = a; b = 0; c = 0; d = 0; e = 0; dest = v }) n ≡ ontoOf i a (record { 0 = d }) next
   unfolding ontoOf
   below e h = rw (← is, h) (λ i. Got (record { a = a; b = 0; c = 0; d = 0; e = 0; dest = v }) (record { 0 = e i }))
 
 -- ---- a source
 module _ (ps : Source) (w : List ℕ) (pc : ℕ) (vs : List ℕ) where
-  pub short : length w < pc + sizeOf ps → Refused 22 ≡ takenOf ps w pc vs
+  pub short : length w < pc + sizeOf ps → Refused (fault 22 (record { 0 = pc })) ≡ takenOf ps w pc vs
   unfolding takenOf
   short l = rw (lt-ltb _ _ l)
 
   module _ (l : pc + sizeOf ps ≤ length w) where
-    pub over : 63 < highest ps w pc 1 → Refused 23 ≡ takenOf ps w pc vs
+    -- the first misnamed piece stands k words past the opcode
+    pub over : (k : ℕ) → 63 < highest ps w pc 1 → firstAbove ps w pc 1 ≡ k → Refused (fault 23 (record { 0 = pc + k })) ≡ takenOf ps w pc vs
     unfolding takenOf
-    over h = rw (le-ltb _ _ l, lt-ltb _ _ h)
+    over k h f = rw (le-ltb _ _ l, lt-ltb _ _ h, f)
 
     pub fine : {o : Operands} {next : ℕ} → highest ps w pc 1 ≤ 63 → o ≡ gathered (values ps w pc 1 vs) (destination ps w pc 1) → next ≡ pc + sizeOf ps
         → Got o (record { 0 = next }) ≡ takenOf ps w pc vs
@@ -86,15 +88,28 @@ module _ (ps : Source) (w : List ℕ) (pc : ℕ) (vs : List ℕ) where
         → Got (record { a = a; b = b; c = c; d = 0; e = 0; dest = record { 0 = 0 } }) (record { 0 = next }) ≡ takenOf ps w pc vs
     three h q r n = fine h ((λ i. record { a = q .0 i; b = q .1 i; c = q .2 i; d = 0; e = 0; dest = record { 0 = 0 } }) ∙ r) n
 
-    -- at most one value and a destination v, while no other variable is above 63
-    pub onto : {a : ℕ} (v : ℕ) → v ≤ highest ps w pc 1 → highest ps w pc 1 ≤ max v 63 → let x = at (values ps w pc 1 vs) 0 in a ≡ x
-        → gathered (x ∷ []) v ≡ gathered (values ps w pc 1 vs) (destination ps w pc 1) → ontoOf a (record { 0 = v }) (record { 0 = pc + sizeOf ps }) ≡ takenOf ps w pc vs
+    -- at most one value and a destination v, named k words past the opcode, while no other variable is above 63
+    pub onto : {a : ℕ} (k v : ℕ) → v ≤ highest ps w pc 1 → highest ps w pc 1 ≤ max v 63 → (63 < v → firstAbove ps w pc 1 ≡ k)
+        → let x = at (values ps w pc 1 vs) 0 in a ≡ x → gathered (x ∷ []) v ≡ gathered (values ps w pc 1 vs) (destination ps w pc 1)
+        → ontoOf (record { 0 = pc + k }) a (record { 0 = v }) (record { 0 = pc + sizeOf ps }) ≡ takenOf ps w pc vs
     unfolding ontoOf Place.above
-    onto {a} v low high q r = go (ltb 63 (v + 0)) refl
+    onto {a} k v low high f q r = go (ltb 63 (v + 0)) refl
       where
-        go : (b : Bool) → ltb 63 (v + 0) ≡ b → cond b (Refused 23) (Got (gathered (a ∷ []) v) (record { 0 = pc + sizeOf ps })) ≡ takenOf ps w pc vs
-        go true p = over (omega (arith, ltb-true 63 (v + 0) p))
+        go : (b : Bool) → ltb 63 (v + 0) ≡ b
+            → cond b (Refused (fault 23 (record { 0 = pc + k }))) (Got (gathered (a ∷ []) v) (record { 0 = pc + sizeOf ps })) ≡ takenOf ps w pc vs
+        go true p = let above : 63 < v = omega (arith, ltb-true 63 (v + 0) p) in over k (omega (arith, above, low)) (f above)
         go false p = fine (omega (arith, ltb-false 63 (v + 0) p)) (ap (λ (a : ℕ). gathered (a ∷ []) v) q ∙ r) refl
+
+-- ---- the word v behind the opcode names the first of n variables: above 63, it is the first misnamed; else a destination behind it is
+module _ (w : List ℕ) (pc : ℕ) {v : ℕ} (is : v ≡ at w (pc + 1)) where
+  pub over-first : (n : ℕ) (ps : Source) (vs : List ℕ) → pc + sizeOf (from n ∷ ps) ≤ length w → 63 < v + (n - 1)
+      → Refused (fault 23 (record { 0 = pc + 1 })) ≡ takenOf (from n ∷ ps) w pc vs
+  over-first n ps vs l h =
+      let high : 63 < at w (pc + 1) + (n - 1) = rw is at h in
+      over (from n ∷ ps) w pc vs l 1 (omega (arith, high)) (rw (lt-ltb _ _ high))
+
+  pub next-over : v ≤ 63 → 63 < at w (pc + 2) → firstAbove (from 1 ∷ dest ∷ []) w pc 1 ≡ 2
+  next-over low h = let first : at w (pc + 1) + 0 ≤ 63 = omega (arith, low, is) in rw (le-ltb _ _ first, lt-ltb _ _ h)
 
 pub from-variable : (n : ℕ) (w : List ℕ) (pc : ℕ) (vs : List ℕ) (v : ℕ) {o : Operands} {next : ℕ} → v ≡ at w (pc + 1) → pc + 2 ≤ length w → v ≤ 63 → v + n ≤ 64
     → o ≡ gathered (following n v 0 vs) 0 → next ≡ pc + 2 → Got o (record { 0 = next }) ≡ takenOf (from n ∷ []) w pc vs

@@ -13,10 +13,13 @@ onto-spec =
     (tie.spec
     (λ c κs. search needs)
     (λ c κs. search needs)
-    (λ c. (above _ _ _ (c .before .before .named .ensures) _ (sym (c .before .above .ensures) ∙ c .if1 .taken), tt))
+    (λ c κs. search needs)
+    (λ c.
+    let i = c .before in
+    (c .misnamed .ensures ∙ above _ _ _ _ (i .before .before .named .ensures) _ (sym (i .before .above .ensures) ∙ i .if1 .taken), rw (c .misnamed .ensures) tt))
     (λ c. search needs)
     (λ c κs. search needs)
     (λ c.
     let i = c .before in
     let low = sym (i .before .above .ensures) ∙ i .if1 .left in
-    (below _ _ _ (i .before .before .named .ensures) _ (c .past .ensures) low, omega (arith, not-above _ 1 low))))
+    (below _ _ _ _ (i .before .before .named .ensures) _ (c .past .ensures) low, omega (arith, not-above _ 1 low))))

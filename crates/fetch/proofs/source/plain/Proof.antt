@@ -1,4 +1,5 @@
 -- `plain`: each value is the one of its place, and words name no variable.
+use mathlib.Core.Path.{_∙_}
 use native.Mathlib.Omega.{arith}
 use borrow.Author.Needs.{needs}
 use Rattle.fetch.proofs.Taking.{all-words, no-variable, no-destination, short, fine}
@@ -10,7 +11,8 @@ plain-spec =
     tie.close
     (tie.spec
     (λ c κs. search needs)
-    (λ c vs. short _ _ _ vs (rw all-words (omega arith)))
+    (λ c κs. search needs)
+    (λ c vs. c .cut .ensures ∙ short _ _ _ vs (rw all-words (omega arith)))
     (λ c κs. search needs)
     (λ c κs. search needs)
     (λ c κs. search needs)

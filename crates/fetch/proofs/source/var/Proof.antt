@@ -2,6 +2,7 @@
 use mathlib.Core.Path.{refl, _∙_}
 use native.Mathlib.Omega.{arith}
 use borrow.Author.Needs.{needs}
+use borrow.Author.Tests.{lt-ltb}
 use Rattle.fetch.proofs.Taking.{short, onto}
 use Rattle.fetch.proofs.source.var.Statement.{statement}
 use Rattle.fetch.proofs.source.var.Tie as tie
@@ -11,6 +12,7 @@ var-spec =
     tie.close
     (tie.spec
     (λ c κs. search needs)
-    (λ c. (λ vs. short _ _ _ vs (omega arith), tt))
     (λ c κs. search needs)
-    (λ c. (λ vs. c .onto .ensures .0 ∙ onto _ _ _ vs (omega arith) _ (omega arith) (omega arith) (search needs) refl, c .onto .ensures .1)))
+    (λ c. (λ vs. c .cut .ensures ∙ short _ _ _ vs (omega arith), rw (c .cut .ensures) tt))
+    (λ c κs. search needs)
+    (λ c. (λ vs. c .onto .ensures .0 ∙ onto _ _ _ vs (omega arith) _ _ (omega arith) (omega arith) (λ h. rw (lt-ltb _ _ h)) (search needs) refl, c .onto .ensures .1)))

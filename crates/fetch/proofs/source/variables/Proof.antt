@@ -3,7 +3,7 @@ use mathlib.Core.Path.{sym, _∙_}
 use native.Mathlib.Omega.{arith}
 use borrow.Author.Needs.{needs}
 use Rattle.numbers.proofs.Places.{is-above, not-above}
-use Rattle.fetch.proofs.Taking.{short, over, from-variable}
+use Rattle.fetch.proofs.Taking.{short, over-first, from-variable}
 use Rattle.fetch.proofs.source.variables.Statement.{statement}
 use Rattle.fetch.proofs.source.variables.Tie as tie
 
@@ -12,10 +12,15 @@ variables-spec =
     tie.close
     (tie.spec
     (λ c κs. search needs)
-    (λ c. short _ _ _ _ (omega arith))
+    (λ c κs. search needs)
+    (λ c. c .cut .ensures ∙ short _ _ _ _ (omega arith))
     (λ c κs. search needs)
     (λ c κs. search needs)
-    (λ c. over _ _ _ _ (omega arith) (omega (arith, is-above _ _ (sym (c .before .above .ensures) ∙ c .if2 .taken))))
+    (λ c κs. search needs)
+    (λ c.
+    let i = c .before in
+    let high = is-above _ _ (sym (i .before .above .ensures) ∙ i .if2 .taken) in
+    c .misnamed .ensures ∙ over-first _ _ (i .before .before .named .ensures) _ _ _ (omega arith) high)
     (λ c κs. omega (arith, not-above _ _ (sym (c .before .above .ensures) ∙ c .if2 .left)))
     (λ c κs. search needs)
     (λ c.

@@ -11,7 +11,8 @@ word2-long-spec =
     tie.close
     (tie.spec
     (λ c κs. search needs)
-    (λ c vs. short _ _ _ vs (omega arith))
+    (λ c κs. search needs)
+    (λ c vs. c .cut .ensures ∙ short _ _ _ vs (omega arith))
     (λ c. search needs)
     (λ c κs. search needs)
     (λ c κs. search needs)
