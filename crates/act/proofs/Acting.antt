@@ -9,7 +9,8 @@ use Rattle.raster.specs.Shapes.{Shape}
 use Rattle.raster.specs.Frame.{drawable}
 use Rattle.raster.specs.Brush.{Holds}
 use Rattle.player.specs.Painting.{Painting, nothing}
-use Rattle.player.specs.Player.{verdict, Outcome, done, refused}
+use Rattle.player.specs.declared.Verdict.{Verdict}
+use Rattle.player.specs.Player.{fault, verdict, Outcome, done, refused}
 use Rattle.player.specs.Shown.{marks, unmarked, went, stayed}
 use Rattle.numbers.specs.declared.place.WordIndex.{WordIndex}
 use Rattle.rules.specs.Environment.{Env, goto, frame}
@@ -27,10 +28,10 @@ lowest r =
     (cond (r .breaks 28) (some 28)
     (cond (r .breaks 29) (some 29) none)))))
 
--- refused with a number, where there is one
-abbrev refusedBy : Option ℕ → Outcome Env → Outcome Env
-refusedBy (some n) o = refused (verdict n)
-refusedBy none o = o
+-- refused with a number where the opcode begins, where there is one
+abbrev refusedBy : WordIndex → Option ℕ → Outcome Env → Outcome Env
+refusedBy i (some n) o = refused (fault n i)
+refusedBy i none o = o
 
 abbrev painting : Rule → Env → Painting
 painting r e = record { frame = frame e; shape = r .shape; colour = r .colour }
@@ -38,12 +39,13 @@ painting r e = record { frame = frame e; shape = r .shape; colour = r .colour }
 abbrev said : Rule → Env → Outcome Env
 said r e = done (r .env) (painting r e)
 
-carried-is : (r : Rule) (e : Env) → carried r e ≡ refusedBy (lowest r) (said r e)
+carried-is : (r : Rule) (e : Env) → carried r e ≡ refusedBy (e .flow .counter) (lowest r) (said r e)
 unfolding carried
 carried-is r e =
     go 24 (r .breaks 24) _ (go 25 (r .breaks 25) _ (go 26 (r .breaks 26) _ (go 27 (r .breaks 27) _ (go 28 (r .breaks 28) _ (go 29 (r .breaks 29) none refl)))))
   where
-    go : (n : ℕ) (b : Bool) {o : Outcome Env} (m : Option ℕ) → o ≡ refusedBy m (said r e) → check n b o ≡ refusedBy (cond b (some n) m) (said r e)
+    go : (n : ℕ) (b : Bool) {o : Outcome Env} (m : Option ℕ) → o ≡ refusedBy (e .flow .counter) m (said r e)
+        → check n (e .flow .counter) b o ≡ refusedBy (e .flow .counter) (cond b (some n) m) (said r e)
     go n true m p = refl
     go n false m p = p
 
@@ -60,8 +62,8 @@ module _ (rule : Env → Rule) (next : WordIndex) (e : Env) (p : List ℕ) where
   abbrev r : Rule
   r = rule (goto next e)
 
-  -- a rule that breaks n, and none below it, is refused with n, and all stays
-  pub stays : {n : ℕ} {X : Shown} → lowest r ≡ some n → X ≡ stayed (verdict n) e → X ≡ does rule next e p
+  -- a rule that breaks n, and none below it, is refused with n where the opcode begins, and all stays
+  pub stays : {n : ℕ} {X : Shown} → lowest r ≡ some n → X ≡ stayed (fault n (e .flow .counter)) e → X ≡ does rule next e p
   unfolding does
   stays k x = rw (carried-is r e, k) x
 
@@ -77,8 +79,8 @@ module _ (rule : Env → Rule) (next : WordIndex) (e : Env) (p : List ℕ) where
   past f k same x = goes k (rw same at x)
 
   -- 1 came back, with the environment that it says, its frame that of before, and the brush holds the shape
-  pub drawn : {q : ℕ} {e' : Env} → lowest r ≡ none → q ≡ 1 → e' ≡ r .env → frame (r .env) ≡ frame e → Holds (r .shape) (r .colour) p
-      → seen q e' p ≡ does rule next e p
+  pub drawn : {v : Verdict} {e' : Env} → lowest r ≡ none → v ≡ verdict 1 → e' ≡ r .env → frame (r .env) ≡ frame e → Holds (r .shape) (r .colour) p
+      → seen v e' p ≡ does rule next e p
   drawn k z env framed h = goes k (rw (z, env, framed, h .shape, h .colour))
 
   -- where the shape is empty, no dot is painted

@@ -11,6 +11,8 @@ use Rattle.numbers.specs.declared.place.WordIndex.{WordIndex}
 use Rattle.numbers.specs.declared.place.Target.{Target}
 use Rattle.numbers.specs.declared.place.Target.the-variants.{At, Refused}
 use Rattle.raster.specs.declared.frame.Bounds.{Bounds}
+use Rattle.player.specs.declared.Verdict.{Verdict}
+use Rattle.player.specs.Player.{fault, verdict}
 use Rattle.rules.specs.declared.opcode.Operands.{Operands}
 use Rattle.rules.specs.Op as Op
 use Rattle.rules.specs.Environment.{Env, firsts, goto, stacked}
@@ -30,17 +32,21 @@ then-to n {i} cs p g b ps vs st = g .shows b ps vs st ∙ ap (goto i) (p .1 b ps
 
 -- ---- a call, and a return; d is the depth
 module _ (t : Target) (next : WordIndex) {cs st : List ℕ} (pre : Stacked cs st) where
-  pub call-27 : t ≡ Refused → Stacks 27 (does (calls t) next) cs cs st st
-  call-27 m = record { cells = pre .cells; deep = pre .full; tells = λ b ps vs s. stays _ _ _ s (rw m) refl }
+  pub call-27 : t ≡ Refused → {v : Verdict} → v ≡ fault 27 (celled cs .counter) → Stacks v (does (calls t) next) cs cs st st
+  call-27 m told = record { cells = pre .cells; deep = pre .full; tells = λ b ps vs s. stays _ _ _ s {n = 27} (rw m) (rw told) }
 
   module _ {i : WordIndex} (m : t ≡ At i) {d : ℕ} (is : d ≡ celled cs .depth) where
-    pub call-28 : 16 ≤ d → Stacks 28 (does (calls t) next) cs cs st st
-    call-28 h =
-        record { cells = pre .cells; deep = pre .full; tells = λ b ps vs s. stays _ _ _ s (rw (m, ← is, length-firsts d (indexed st), le-leb 16 d h)) refl }
+    pub call-28 : 16 ≤ d → {v : Verdict} → v ≡ fault 28 (celled cs .counter) → Stacks v (does (calls t) next) cs cs st st
+    call-28 h told =
+        record {
+          cells = pre .cells;
+          deep = pre .full;
+          tells = λ b ps vs s. stays _ _ _ s {n = 28} (rw (m, ← is, length-firsts d (indexed st), le-leb 16 d h)) (rw told);
+        }
 
     -- the next opcode's index is stored at the depth
-    pub call-at : d < 16 → {q : ℕ} {cs' cs'' st' : List ℕ} → st' ≡ set st d (next .0) → Deepened (d + 1) cs cs' → (q ≡ 0) × Recelled (goto i) cs' cs''
-        → Stacks q (does (calls t) next) cs cs'' st st'
+    pub call-at : d < 16 → {v : Verdict} {cs' cs'' st' : List ℕ} → st' ≡ set st d (next .0) → Deepened (d + 1) cs cs' → (v ≡ verdict 0) × Recelled (goto i) cs' cs''
+        → Stacks v (does (calls t) next) cs cs'' st st'
     call-at h e p g = rw e (record {
       cells = g .1 .full;
       deep = simp length-set (pre .full);
@@ -51,22 +57,26 @@ module _ (t : Target) (next : WordIndex) {cs st : List ℕ} (pre : Stacked cs st
     })
 
 -- the target t is what T makes of the environment at the next opcode
-pub call-aimed : {t : Target} (next : WordIndex) (T : Env → Target) → ((e : Env) → t ≡ T (goto next e)) → {q : ℕ} {cs cs' st st' : List ℕ}
-    → Stacks q (does (calls t) next) cs cs' st st' → Stacks q (does (λ e. calls (T e) e) next) cs cs' st st'
+pub call-aimed : {t : Target} (next : WordIndex) (T : Env → Target) → ((e : Env) → t ≡ T (goto next e)) → {v : Verdict} {cs cs' st st' : List ℕ}
+    → Stacks v (does (calls t) next) cs cs' st st' → Stacks v (does (λ e. calls (T e) e) next) cs cs' st st'
 unfolding does
 call-aimed next T is p = record { cells = p .cells; deep = p .deep; tells = λ b ps vs s. rw (← is _) (p .tells b ps vs s) }
 
 module _ (o : Operands) (n : ℕ) (next : WordIndex) {cs st : List ℕ} (pre : Stacked cs st) {d : ℕ} (is : d ≡ celled cs .depth) where
-  pub back-29 : d ≡ 0 → Stacks 29 (does (rule Op.Return o n) next) cs cs st st
-  back-29 z =
-      record { cells = pre .cells; deep = pre .full; tells = λ b ps vs s. stays _ _ _ s (rw (← is, length-firsts d (indexed st), eq-eqb d 0 z)) refl }
+  pub back-29 : d ≡ 0 → {v : Verdict} → v ≡ fault 29 (celled cs .counter) → Stacks v (does (rule Op.Return o n) next) cs cs st st
+  back-29 z told =
+      record {
+        cells = pre .cells;
+        deep = pre .full;
+        tells = λ b ps vs s. stays _ _ _ s {n = 29} (rw (← is, length-firsts d (indexed st), eq-eqb d 0 z)) (rw told);
+      }
 
   index : {i : WordIndex} {n : ℕ} → i .0 ≡ n → i ≡ record { 0 = n }
   index e = λ j. record { 0 = e j }
 
   -- the last return stacked stands below the depth
-  pub back-at : (d ≡ 0 → ⊥) → {i : WordIndex} → i .0 ≡ getD st (d - 1) 0 → {q : ℕ} {cs' cs'' : List ℕ} → Deepened (d - 1) cs cs' → (q ≡ 0) × Recelled (goto i) cs' cs''
-      → Stacks q (does (rule Op.Return o n) next) cs cs'' st st
+  pub back-at : (d ≡ 0 → ⊥) → {i : WordIndex} → i .0 ≡ getD st (d - 1) 0 → {v : Verdict} {cs' cs'' : List ℕ} → Deepened (d - 1) cs cs' → (v ≡ verdict 0) × Recelled (goto i) cs' cs''
+      → Stacks v (does (rule Op.Return o n) next) cs cs'' st st
   back-at h {i} at p g =
       let above : suc (d - 1) ≡ d = omega (arith, h) in
       record {

@@ -4,7 +4,9 @@ use mathlib.Core.Path.{_≡_, refl, ap}
 use mathlib.Core.List.{List, [], _∷_}
 use lib.ListN.{length, set, getD}
 use lib.IntN.{ℤ, pos}
+use Rattle.player.specs.declared.Verdict.{Verdict}
 use Rattle.player.specs.declared.State.the-variants.{Ended}
+use Rattle.player.specs.Player.{verdict}
 use Rattle.numbers.specs.declared.place.WordIndex.{WordIndex}
 use Rattle.raster.specs.declared.dots.Dot.{Dot}
 use Rattle.raster.specs.declared.frame.Window.{Window}
@@ -31,14 +33,15 @@ module _ (cs : List ℕ) (l : CellsFull cs) where
   colour-set n h =
       one-by-one 0 (λ cs. Recelled (coloured n) cs (set cs 5 n)) cs l (record { full = refl; shows = λ b ps vs st. rw (byte n h) })
 
-  pub state-set : (n : ℕ) → n < 256 → Recelled (stated (stateOf n)) cs (set cs 6 n)
-  state-set n h =
-      one-by-one 0 (λ cs. Recelled (stated (stateOf n)) cs (set cs 6 n)) cs l (record { full = refl; shows = λ b ps vs st. rw (byte n h) })
+  pub state-set : (v : Verdict) → v .number < 256 → Recelled (stated (stateOf v)) cs (set (set cs 6 (v .number)) 7 (v .place .0))
+  state-set v h =
+      one-by-one 0 (λ cs. Recelled (stated (stateOf v)) cs (set (set cs 6 (v .number)) 7 (v .place .0))) cs l
+      (record { full = refl; shows = λ b ps vs st. rw (byte (v .number) h) })
 
--- 1 is ended's byte
-pub ended : {cs cs' : List ℕ} → Recelled (stated (stateOf 1)) cs cs' → Recelled (stated Ended) cs cs'
+-- 1 with the place 0 is ended
+pub ended : {v : Verdict} {cs cs' : List ℕ} → v ≡ verdict 1 → Recelled (stated (stateOf v)) cs cs' → Recelled (stated Ended) cs cs'
 unfolding stateOf
-ended p = p
+ended e p = rw e at p
 
 -- what is stored, x, is what was given
 module _ (ps : List ℤ) (l : PointsFull ps) where

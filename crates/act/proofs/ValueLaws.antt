@@ -8,6 +8,8 @@ use Rattle.numbers.specs.declared.arith.Division.the-variants.{Gives, ByZero}
 use Rattle.numbers.specs.declared.place.WordIndex.{WordIndex}
 use Rattle.numbers.specs.Number.{unlessZero}
 use Rattle.numbers.proofs.Division.{told-by-zero, told-gives}
+use Rattle.player.specs.declared.Verdict.{Verdict}
+use Rattle.player.specs.Player.{fault}
 use Rattle.rules.specs.declared.opcode.Operands.{Operands}
 use Rattle.rules.specs.Environment.{Env}
 use Rattle.rules.specs.Operands.{at}
@@ -16,7 +18,7 @@ use Rattle.rules.specs.Step.{carried}
 use Rattle.act.specs.declared.values.Calculation.{Calculation}
 use Rattle.act.specs.declared.values.Calculation.the-variants.{Sum, And, Or, Product, OneMore, OneLess}
 use Rattle.act.specs.Calculations.{calculated, opOf}
-use Rattle.act.specs.Lent.{CellsFull}
+use Rattle.act.specs.Lent.{celled, CellsFull}
 use Rattle.act.specs.Shown.{does}
 use Rattle.act.specs.Contracts.{Sets}
 use Rattle.act.proofs.Acting.{stays}
@@ -27,14 +29,14 @@ divides v o e = refuse 26 (eqb (o .a) 0) (gives v o e)
 
 module _ (o : Operands) (next : WordIndex) {cs vs : List ℕ} where
   -- x is Vd's value: a rule of x
-  module _ {q : ℕ} {cs' vs' : List ℕ} {x : ℕ} (d : x ≡ at vs (o .dest .0)) where
-    pub of-old : (R : ℕ → Env → Rule) → Sets q (does (R x) next) cs cs' vs vs' → Sets q (does (λ e. R (old o e) e) next) cs cs' vs vs'
+  module _ {u : Verdict} {cs' vs' : List ℕ} {x : ℕ} (d : x ≡ at vs (o .dest .0)) where
+    pub of-old : (R : ℕ → Env → Rule) → Sets u (does (R x) next) cs cs' vs vs' → Sets u (does (λ e. R (old o e) e) next) cs cs' vs vs'
     unfolding does
     of-old R s = record { cells = s .cells; tells = λ b ps st scr. rw (← d) (s .tells b ps st scr) }
 
     -- v is what a calculation makes of x and the operand
     pub calculates : (c : Calculation) (n : ℕ) {v : ℕ} → v ≡ calculated c x (o .a)
-        → Sets q (does (gives v o) next) cs cs' vs vs' → Sets q (does (rule (opOf c) o n) next) cs cs' vs vs'
+        → Sets u (does (gives v o) next) cs cs' vs vs' → Sets u (does (rule (opOf c) o n) next) cs cs' vs vs'
     calculates Sum n p s = of-old (λ x. gives (calculated Sum x (o .a)) o) (rw p at s)
     calculates And n p s = of-old (λ x. gives (calculated And x (o .a)) o) (rw p at s)
     calculates Or n p s = of-old (λ x. gives (calculated Or x (o .a)) o) (rw p at s)
@@ -42,15 +44,15 @@ module _ (o : Operands) (next : WordIndex) {cs vs : List ℕ} where
     calculates OneMore n p s = of-old (λ x. gives (calculated OneMore x (o .a)) o) (rw p at s)
     calculates OneLess n p s = of-old (λ x. gives (calculated OneLess x (o .a)) o) (rw p at s)
 
-    pub divided : (g : ℕ → ℕ) → Sets q (does (divides (g x) o) next) cs cs' vs vs' → Sets q (does (λ e. divides (g (old o e)) o e) next) cs cs' vs vs'
+    pub divided : (g : ℕ → ℕ) → Sets u (does (divides (g x) o) next) cs cs' vs vs' → Sets u (does (λ e. divides (g (old o e)) o e) next) cs cs' vs vs'
     divided g s = of-old (λ x. divides (g x) o) s
 
   -- the answer x of a division that gives n
   module _ (n : ℕ) {x : Division} (is : x ≡ unlessZero (o .a) n) where
-    pub by-zero : x ≡ ByZero → CellsFull cs → Sets 26 (does (divides n o) next) cs cs vs vs
-    by-zero z l = record { cells = l; tells = λ b ps st s. stays _ _ _ s (rw (told-by-zero (o .a) n (sym is ∙ z))) refl }
+    pub by-zero : x ≡ ByZero → CellsFull cs → {u : Verdict} → u ≡ fault 26 (celled cs .counter) → Sets u (does (divides n o) next) cs cs vs vs
+    by-zero z l told = record { cells = l; tells = λ b ps st s. stays _ _ _ s {n = 26} (rw (told-by-zero (o .a) n (sym is ∙ z))) (rw told) }
 
-    pub by-other : {q v : ℕ} {cs' vs' : List ℕ} → x ≡ Gives v → Sets q (does (gives v o) next) cs cs' vs vs' → Sets q (does (divides n o) next) cs cs' vs vs'
+    pub by-other : {u : Verdict} {v : ℕ} {cs' vs' : List ℕ} → x ≡ Gives v → Sets u (does (gives v o) next) cs cs' vs vs' → Sets u (does (divides n o) next) cs cs' vs vs'
     unfolding does carried
     by-other {v = v} g p =
         let t = told-gives (o .a) n v (sym is ∙ g) in

@@ -8,6 +8,7 @@ use Rattle.raster.specs.declared.dots.Dot.{Dot}
 use Rattle.raster.specs.declared.frame.Bounds.{Bounds}
 use Rattle.raster.specs.Frame.{Coord}
 use Rattle.raster.specs.Brush.{Full, NearEnds}
+use Rattle.player.specs.declared.Verdict.{Verdict}
 use Rattle.rules.specs.Environment.{Env}
 use Rattle.act.specs.Lent.{celled, pointed, look, CellsFull, PointsFull}
 use Rattle.act.specs.Shown.{Shown, seen}
@@ -16,39 +17,39 @@ use Rattle.act.specs.Shown.{Shown, seen}
 abbrev pub Showing : Type 0
 Showing = Env → List ℕ → Shown
 
--- the number q came back, and cells are changed alone; and variables, the stack, points, the brush, points and the brush
-pub record Goes (q : ℕ) (shows : Showing) (cs cs' : List ℕ) : Type 0 where
+-- the verdict v came back, and cells are changed alone; and variables, the stack, points, the brush, points and the brush
+pub record Goes (v : Verdict) (shows : Showing) (cs cs' : List ℕ) : Type 0 where
   pub cells : CellsFull cs'
-  pub tells : (b : Bounds) (ps : List ℤ) (vs st p : List ℕ) → seen q (look b cs' ps vs st) p ≡ shows (look b cs ps vs st) p
+  pub tells : (b : Bounds) (ps : List ℤ) (vs st p : List ℕ) → seen v (look b cs' ps vs st) p ≡ shows (look b cs ps vs st) p
 
-pub record Sets (q : ℕ) (shows : Showing) (cs cs' vs vs' : List ℕ) : Type 0 where
+pub record Sets (v : Verdict) (shows : Showing) (cs cs' vs vs' : List ℕ) : Type 0 where
   pub cells : CellsFull cs'
-  pub tells : (b : Bounds) (ps : List ℤ) (st p : List ℕ) → seen q (look b cs' ps vs' st) p ≡ shows (look b cs ps vs st) p
+  pub tells : (b : Bounds) (ps : List ℤ) (st p : List ℕ) → seen v (look b cs' ps vs' st) p ≡ shows (look b cs ps vs st) p
 
-pub record Stacks (q : ℕ) (shows : Showing) (cs cs' st st' : List ℕ) : Type 0 where
+pub record Stacks (v : Verdict) (shows : Showing) (cs cs' st st' : List ℕ) : Type 0 where
   pub cells : CellsFull cs'
   pub deep : length st' ≡ 16
-  pub tells : (b : Bounds) (ps : List ℤ) (vs p : List ℕ) → seen q (look b cs' ps vs st') p ≡ shows (look b cs ps vs st) p
+  pub tells : (b : Bounds) (ps : List ℤ) (vs p : List ℕ) → seen v (look b cs' ps vs st') p ≡ shows (look b cs ps vs st) p
 
-pub record Moves (q : ℕ) (shows : Showing) (cs cs' : List ℕ) (ps ps' : List ℤ) : Type 0 where
+pub record Moves (v : Verdict) (shows : Showing) (cs cs' : List ℕ) (ps ps' : List ℤ) : Type 0 where
   pub cells : CellsFull cs'
   pub points : PointsFull ps'
-  pub tells : (b : Bounds) (vs st p : List ℕ) → seen q (look b cs' ps' vs st) p ≡ shows (look b cs ps vs st) p
+  pub tells : (b : Bounds) (vs st p : List ℕ) → seen v (look b cs' ps' vs st) p ≡ shows (look b cs ps vs st) p
 
 -- a brush that can be painted with
 abbrev pub Brushed : List ℕ → Type 0
 Brushed p = Full p × NearEnds p
 
-pub record Paints (q : ℕ) (shows : Showing) (cs cs' p' : List ℕ) : Type 0 where
+pub record Paints (v : Verdict) (shows : Showing) (cs cs' p' : List ℕ) : Type 0 where
   pub cells : CellsFull cs'
   pub brush : Brushed p'
-  pub tells : (b : Bounds) (ps : List ℤ) (vs st : List ℕ) → seen q (look b cs' ps vs st) p' ≡ shows (look b cs ps vs st) p'
+  pub tells : (b : Bounds) (ps : List ℤ) (vs st : List ℕ) → seen v (look b cs' ps vs st) p' ≡ shows (look b cs ps vs st) p'
 
-pub record Draws (q : ℕ) (shows : Showing) (cs cs' : List ℕ) (ps ps' : List ℤ) (p' : List ℕ) : Type 0 where
+pub record Draws (v : Verdict) (shows : Showing) (cs cs' : List ℕ) (ps ps' : List ℤ) (p' : List ℕ) : Type 0 where
   pub cells : CellsFull cs'
   pub points : PointsFull ps'
   pub brush : Brushed p'
-  pub tells : (b : Bounds) (vs st : List ℕ) → seen q (look b cs' ps' vs st) p' ≡ shows (look b cs ps vs st) p'
+  pub tells : (b : Bounds) (vs st : List ℕ) → seen v (look b cs' ps' vs st) p' ≡ shows (look b cs ps vs st) p'
 
 -- a point that raster draws to
 abbrev pub Coords : Dot → Type 0

@@ -13,7 +13,7 @@ use Rattle.rules.specs.Operands.{at}
 
 -- as many as there are
 abbrev pub CellsFull : List ℕ → Type 0
-CellsFull cs = length cs ≡ 7
+CellsFull cs = length cs ≡ 8
 
 abbrev pub PointsFull : List ℤ → Type 0
 PointsFull ps = length ps ≡ 6
@@ -33,6 +33,7 @@ registers cs ps =
       second = at cs 2;
       counter = record { 0 = at cs 0 };
       depth = at cs 3;
+      place = record { 0 = at cs 7 };
       colour = low8 (at cs 5);
       state = low8 (at cs 6);
     }

@@ -3,9 +3,10 @@ use crate::registers::Cells;
 use crate::registers::depth;
 use crate::registers::finish;
 use crate::registers::first;
+use crate::registers::refuse;
 use crate::registers::second;
 use crate::registers::set_depth;
-use crate::registers::set_state;
+use crate::registers::set_ended;
 use crate::stack::Stack;
 use crate::stack::stack_at;
 use crate::stack::stacked_at;
@@ -17,6 +18,7 @@ use numbers::place::Target;
 use numbers::place::WordIndex;
 use numbers::place::word_at;
 use numbers::place::word_from;
+use player::Verdict;
 use rules::opcode::Operands;
 ghost use mathlib.Core.Path.{_≡_};
 ghost use Prim.Native.Nat.{ℕ};
@@ -56,54 +58,54 @@ fn condition_of(k: u32, first: u32, second: u32) -> Condition
 }
 
 // A jump on condition k: one not taken does not look at its target.
-fn jump_to(k: u32, t: Target, next: WordIndex, cells: &mut Cells) -> u8
+fn jump_to(k: u32, t: Target, next: WordIndex, cells: &mut Cells) -> Verdict
     requires { ⌜ CellsFull (now cells) ⌝ }
     ensures { λ q. ⌜ Goes q (does (jumps k t) next) (now (cells .entry)) (now (cells .exit)) ⌝ }
 {
     let c = condition_of(k, first(&*cells), second(&*cells));
     match c {
-        Condition::NotAllowed => 24,
+        Condition::NotAllowed => refuse(&*cells, 24),
         Condition::Unmet => finish(cells, next),
         Condition::Met => match t {
-            Target::Refused => 27,
+            Target::Refused => refuse(&*cells, 27),
             Target::At(i) => finish(cells, i),
         },
     }
 }
 
 // a: the condition; b: the target's bit address.
-pub fn jump(t: Taken, count: u32, cells: &mut Cells) -> u8
+pub fn jump(t: Taken, count: u32, cells: &mut Cells) -> Verdict
     requires { ⌜ CellsFull (now cells) ⌝ }
     ensures { λ q. ⌜ Goes q (answers t (λ o. rule Op.Jump o count)) (now (cells .entry)) (now (cells .exit)) ⌝ }
 {
     match t {
-        Taken::Refused(n) => n,
+        Taken::Refused(v) => v,
         Taken::Got(o, next) => jump_to(o.a, word_at(BitAddress(o.b), count), next, cells),
     }
 }
 
 // a: the condition; b: the offset in words.
-pub fn jump_by(t: Taken, count: u32, cells: &mut Cells) -> u8
+pub fn jump_by(t: Taken, count: u32, cells: &mut Cells) -> Verdict
     requires { ⌜ CellsFull (now cells) ⌝ }
     ensures { λ q. ⌜ Goes q (answers t (λ o. rule Op.JumpBy o count)) (now (cells .entry)) (now (cells .exit)) ⌝ }
 {
     match t {
-        Taken::Refused(n) => n,
+        Taken::Refused(v) => v,
         Taken::Got(o, next) => jump_to(o.a, word_from(next, o.b, count), next, cells),
     }
 }
 
 // A call: the return index is the next opcode's.
-fn call_to(t: Target, next: WordIndex, cells: &mut Cells, stack: &mut Stack) -> u8
+fn call_to(t: Target, next: WordIndex, cells: &mut Cells, stack: &mut Stack) -> Verdict
     requires { ⌜ Stacked (now cells) (now stack) ⌝ }
     ensures { λ q. ⌜ Stacks q (does (calls t) next) (now (cells .entry)) (now (cells .exit)) (now (stack .entry)) (now (stack .exit)) ⌝ }
 {
     match t {
-        Target::Refused => 27,
+        Target::Refused => refuse(&*cells, 27),
         Target::At(i) => {
             let d = depth(&*cells);
             if 16 <= d {
-                return 28;
+                return refuse(&*cells, 28);
             }
             stack_at(stack, d, next);
             set_depth(cells, d + 1);
@@ -113,33 +115,33 @@ fn call_to(t: Target, next: WordIndex, cells: &mut Cells, stack: &mut Stack) -> 
 }
 
 // a: the target's bit address.
-pub fn call(t: Taken, count: u32, cells: &mut Cells, stack: &mut Stack) -> u8
+pub fn call(t: Taken, count: u32, cells: &mut Cells, stack: &mut Stack) -> Verdict
     requires { ⌜ Stacked (now cells) (now stack) ⌝ }
     ensures { λ q.
         ⌜ Stacks q (answers t (λ o. rule Op.Call o count))
         (now (cells .entry)) (now (cells .exit)) (now (stack .entry)) (now (stack .exit)) ⌝ }
 {
     match t {
-        Taken::Refused(n) => n,
+        Taken::Refused(v) => v,
         Taken::Got(o, next) => call_to(word_at(BitAddress(o.a), count), next, cells, stack),
     }
 }
 
 // a: the offset in words.
-pub fn call_by(t: Taken, count: u32, cells: &mut Cells, stack: &mut Stack) -> u8
+pub fn call_by(t: Taken, count: u32, cells: &mut Cells, stack: &mut Stack) -> Verdict
     requires { ⌜ Stacked (now cells) (now stack) ⌝ }
     ensures { λ q.
         ⌜ Stacks q (answers t (λ o. rule Op.CallBy o count))
         (now (cells .entry)) (now (cells .exit)) (now (stack .entry)) (now (stack .exit)) ⌝ }
 {
     match t {
-        Taken::Refused(n) => n,
+        Taken::Refused(v) => v,
         Taken::Got(o, next) => call_to(word_from(next, o.a, count), next, cells, stack),
     }
 }
 
 // To the last return stacked, untested.
-fn back(cells: &mut Cells, stack: &Stack) -> u8
+fn back(cells: &mut Cells, stack: &Stack) -> Verdict
     requires { ⌜ Stacked (now cells) (now stack) ⌝ }
     ensures { λ q.
         ⌜ ((o : Operands) (n : ℕ) (next : WordIndex)
@@ -147,42 +149,42 @@ fn back(cells: &mut Cells, stack: &Stack) -> u8
 {
     let d = depth(&*cells);
     if d == 0 {
-        return 29;
+        return refuse(&*cells, 29);
     }
     set_depth(cells, d - 1);
     finish(cells, stacked_at(stack, d - 1))
 }
 
-pub fn come_back(t: Taken, cells: &mut Cells, stack: &Stack) -> u8
+pub fn come_back(t: Taken, cells: &mut Cells, stack: &Stack) -> Verdict
     requires { ⌜ Stacked (now cells) (now stack) ⌝ }
     ensures { λ q.
         ⌜ ((n : ℕ) → Stacks q (answers t (λ o. rule Op.Return o n))
         (now (cells .entry)) (now (cells .exit)) (now (stack .entry)) (now (stack .entry))) ⌝ }
 {
     match t {
-        Taken::Refused(n) => n,
+        Taken::Refused(v) => v,
         Taken::Got(_, _) => back(cells, stack),
     }
 }
 
-pub fn noop(t: Taken, cells: &mut Cells) -> u8
+pub fn noop(t: Taken, cells: &mut Cells) -> Verdict
     requires { ⌜ CellsFull (now cells) ⌝ }
     ensures { λ q. ⌜ ((n : ℕ) → Goes q (answers t (λ o. rule Op.Noop o n)) (now (cells .entry)) (now (cells .exit))) ⌝ }
 {
     match t {
-        Taken::Refused(n) => n,
+        Taken::Refused(v) => v,
         Taken::Got(_, next) => finish(cells, next),
     }
 }
 
-pub fn end(t: Taken, cells: &mut Cells) -> u8
+pub fn end(t: Taken, cells: &mut Cells) -> Verdict
     requires { ⌜ CellsFull (now cells) ⌝ }
     ensures { λ q. ⌜ ((n : ℕ) → Goes q (answers t (λ o. rule Op.End o n)) (now (cells .entry)) (now (cells .exit))) ⌝ }
 {
     match t {
-        Taken::Refused(n) => n,
+        Taken::Refused(v) => v,
         Taken::Got(_, next) => {
-            set_state(cells, 1);
+            set_ended(cells);
             finish(cells, next)
         }
     }

@@ -7,10 +7,12 @@ use crate::registers::Points;
 use crate::registers::colour;
 use crate::registers::finish_painting;
 use crate::registers::position;
+use crate::registers::refuse;
 use crate::registers::set_position;
 use fetch::source::Taken;
 use numbers::place::WordIndex;
 use numbers::value::low8;
+use player::Verdict;
 use raster::brush::Brush;
 use raster::brush::hold_all;
 use raster::brush::hold_dot;
@@ -28,28 +30,28 @@ ghost use Rattle.act.specs.Shown.{does, answers};
 ghost use Rattle.act.specs.Contracts.{Paints, Draws, Handed, Drawable, Coords};
 
 // One dot at the point (x, y).
-fn dot_at(x: u32, y: u32, c: u8, next: WordIndex, cells: &mut Cells, brush: &mut Brush) -> u8
+fn dot_at(x: u32, y: u32, c: u8, next: WordIndex, cells: &mut Cells, brush: &mut Brush) -> Verdict
     requires { ⌜ Handed (now cells) (now brush) ⌝ }
     ensures { λ q.
         ⌜ Paints q (does (dots (Opcodes.point x y) c) next)
         (now (cells .entry)) (now (cells .exit)) (now (brush .exit)) ⌝ }
 {
     let Point::At(p) = point_of(x, y) else {
-        return 25;
+        return refuse(&*cells, 25);
     };
     hold_dot(brush, p, c);
     finish_painting(cells, next)
 }
 
 // a, b: x and y.
-pub fn pixel(t: Taken, cells: &mut Cells, brush: &mut Brush) -> u8
+pub fn pixel(t: Taken, cells: &mut Cells, brush: &mut Brush) -> Verdict
     requires { ⌜ Handed (now cells) (now brush) ⌝ }
     ensures { λ q.
         ⌜ ((n : ℕ) → Paints q (answers t (λ o. rule Op.Pixel o n))
         (now (cells .entry)) (now (cells .exit)) (now (brush .exit))) ⌝ }
 {
     match t {
-        Taken::Refused(n) => n,
+        Taken::Refused(v) => v,
         Taken::Got(o, next) => {
             let c = colour(&*cells);
             dot_at(o.a, o.b, c, next, cells, brush)
@@ -58,14 +60,14 @@ pub fn pixel(t: Taken, cells: &mut Cells, brush: &mut Brush) -> u8
 }
 
 // a, b: x and y; c: the colour's long.
-pub fn pixel_colour(t: Taken, cells: &mut Cells, brush: &mut Brush) -> u8
+pub fn pixel_colour(t: Taken, cells: &mut Cells, brush: &mut Brush) -> Verdict
     requires { ⌜ Handed (now cells) (now brush) ⌝ }
     ensures { λ q.
         ⌜ ((n : ℕ) → Paints q (answers t (λ o. rule Op.PixelColour o n))
         (now (cells .entry)) (now (cells .exit)) (now (brush .exit))) ⌝ }
 {
     match t {
-        Taken::Refused(n) => n,
+        Taken::Refused(v) => v,
         Taken::Got(o, next) => {
             let c = low8(o.c);
             dot_at(o.a, o.b, c, next, cells, brush)
@@ -81,23 +83,23 @@ fn other_type(given: u32) -> bool
 }
 
 // A line in the foreground colour. a: its type; b, c: x0 and y0; d, e: x1 and y1.
-pub fn line(t: Taken, cells: &mut Cells, brush: &mut Brush) -> u8
+pub fn line(t: Taken, cells: &mut Cells, brush: &mut Brush) -> Verdict
     requires { ⌜ Handed (now cells) (now brush) ⌝ }
     ensures { λ q.
         ⌜ ((n : ℕ) → Paints q (answers t (λ o. rule Op.Line o n))
         (now (cells .entry)) (now (cells .exit)) (now (brush .exit))) ⌝ }
 {
     match t {
-        Taken::Refused(n) => n,
+        Taken::Refused(v) => v,
         Taken::Got(o, next) => {
             if other_type(o.a) {
-                return 24;
+                return refuse(&*cells, 24);
             }
             let Point::At(p) = point_of(o.b, o.c) else {
-                return 25;
+                return refuse(&*cells, 25);
             };
             let Point::At(q) = point_of(o.d, o.e) else {
-                return 25;
+                return refuse(&*cells, 25);
             };
             hold_line(brush, Line { from: p, to: q }, colour(&*cells));
             finish_painting(cells, next)
@@ -106,7 +108,13 @@ pub fn line(t: Taken, cells: &mut Cells, brush: &mut Brush) -> u8
 }
 
 // A line from the position to q, and the position there.
-fn draw_to(q: Dot, next: WordIndex, cells: &mut Cells, points: &mut Points, brush: &mut Brush) -> u8
+fn draw_to(
+    q: Dot,
+    next: WordIndex,
+    cells: &mut Cells,
+    points: &mut Points,
+    brush: &mut Brush,
+) -> Verdict
     requires { ⌜ Drawable (now cells) (now points) (now brush) × Coords q ⌝ }
     ensures { λ r.
         ⌜ Draws r (does (λ e. paints (Lines.line (record { from = e .pen .position; to = q })) (e .pen .colour) (moved q e)) next)
@@ -119,20 +127,20 @@ fn draw_to(q: Dot, next: WordIndex, cells: &mut Cells, points: &mut Points, brus
 }
 
 // a: the line's type; b, c: x and y.
-pub fn line_to(t: Taken, cells: &mut Cells, points: &mut Points, brush: &mut Brush) -> u8
+pub fn line_to(t: Taken, cells: &mut Cells, points: &mut Points, brush: &mut Brush) -> Verdict
     requires { ⌜ Drawable (now cells) (now points) (now brush) ⌝ }
     ensures { λ q.
         ⌜ ((n : ℕ) → Draws q (answers t (λ o. rule Op.LineTo o n))
         (now (cells .entry)) (now (cells .exit)) (now (points .entry)) (now (points .exit)) (now (brush .exit))) ⌝ }
 {
     match t {
-        Taken::Refused(n) => n,
+        Taken::Refused(v) => v,
         Taken::Got(o, next) => {
             if other_type(o.a) {
-                return 24;
+                return refuse(&*cells, 24);
             }
             let Point::At(q) = point_of(o.b, o.c) else {
-                return 25;
+                return refuse(&*cells, 25);
             };
             draw_to(q, next, cells, points, brush)
         }
@@ -140,21 +148,21 @@ pub fn line_to(t: Taken, cells: &mut Cells, points: &mut Points, brush: &mut Bru
 }
 
 // a: the line's type; b, c: dx and dy.
-pub fn line_by(t: Taken, cells: &mut Cells, points: &mut Points, brush: &mut Brush) -> u8
+pub fn line_by(t: Taken, cells: &mut Cells, points: &mut Points, brush: &mut Brush) -> Verdict
     requires { ⌜ Drawable (now cells) (now points) (now brush) ⌝ }
     ensures { λ q.
         ⌜ ((n : ℕ) → Draws q (answers t (λ o. rule Op.LineBy o n))
         (now (cells .entry)) (now (cells .exit)) (now (points .entry)) (now (points .exit)) (now (brush .exit))) ⌝ }
 {
     match t {
-        Taken::Refused(n) => n,
+        Taken::Refused(v) => v,
         Taken::Got(o, next) => {
             if other_type(o.a) {
-                return 24;
+                return refuse(&*cells, 24);
             }
             let here = position(&*points);
             let Point::At(q) = point_by(here, o.b, o.c) else {
-                return 25;
+                return refuse(&*cells, 25);
             };
             draw_to(q, next, cells, points, brush)
         }
@@ -162,14 +170,14 @@ pub fn line_by(t: Taken, cells: &mut Cells, points: &mut Points, brush: &mut Bru
 }
 
 // Every drawable pixel. a: the colour's long; b: the wait word, which is ignored.
-pub fn clear(t: Taken, cells: &mut Cells, brush: &mut Brush) -> u8
+pub fn clear(t: Taken, cells: &mut Cells, brush: &mut Brush) -> Verdict
     requires { ⌜ Handed (now cells) (now brush) ⌝ }
     ensures { λ q.
         ⌜ ((n : ℕ) → Paints q (answers t (λ o. rule Op.Clear o n))
         (now (cells .entry)) (now (cells .exit)) (now (brush .exit))) ⌝ }
 {
     match t {
-        Taken::Refused(n) => n,
+        Taken::Refused(v) => v,
         Taken::Got(o, next) => {
             hold_all(brush, low8(o.a));
             finish_painting(cells, next)

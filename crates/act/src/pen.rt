@@ -6,12 +6,14 @@ use crate::registers::Cells;
 use crate::registers::Points;
 use crate::registers::finish;
 use crate::registers::position;
+use crate::registers::refuse;
 use crate::registers::set_colour;
 use crate::registers::set_mode;
 use crate::registers::set_position;
 use crate::registers::set_window;
 use fetch::source::Taken;
 use numbers::value::low8;
+use player::Verdict;
 use raster::dots::Dot;
 use raster::frame::Window;
 ghost use mathlib.Core.Path.{_≡_};
@@ -24,15 +26,15 @@ ghost use Rattle.act.specs.Shown.{answers};
 ghost use Rattle.act.specs.Contracts.{Goes, Moves};
 
 // a: the mode.
-pub fn clip_mode(t: Taken, cells: &mut Cells) -> u8
+pub fn clip_mode(t: Taken, cells: &mut Cells) -> Verdict
     requires { ⌜ CellsFull (now cells) ⌝ }
     ensures { λ q. ⌜ ((n : ℕ) → Goes q (answers t (λ o. rule Op.ClipMode o n)) (now (cells .entry)) (now (cells .exit))) ⌝ }
 {
     match t {
-        Taken::Refused(n) => n,
+        Taken::Refused(v) => v,
         Taken::Got(o, next) => {
             if 2 < o.a {
-                return 24;
+                return refuse(&*cells, 24);
             }
             set_mode(cells, o.a);
             finish(cells, next)
@@ -53,20 +55,20 @@ fn window(p: Dot, q: Dot) -> Window
 }
 
 // a, b: x0 and y0; c, d: x1 and y1.
-pub fn clip_window(t: Taken, cells: &mut Cells, points: &mut Points) -> u8
+pub fn clip_window(t: Taken, cells: &mut Cells, points: &mut Points) -> Verdict
     requires { ⌜ CellsFull (now cells) × PointsFull (now points) ⌝ }
     ensures { λ q.
         ⌜ ((n : ℕ) → Moves q (answers t (λ o. rule Op.ClipWindow o n))
         (now (cells .entry)) (now (cells .exit)) (now (points .entry)) (now (points .exit))) ⌝ }
 {
     match t {
-        Taken::Refused(n) => n,
+        Taken::Refused(v) => v,
         Taken::Got(o, next) => {
             let Point::At(p) = point_of(o.a, o.b) else {
-                return 25;
+                return refuse(&*cells, 25);
             };
             let Point::At(q) = point_of(o.c, o.d) else {
-                return 25;
+                return refuse(&*cells, 25);
             };
             set_window(points, window(p, q));
             finish(cells, next)
@@ -75,12 +77,12 @@ pub fn clip_window(t: Taken, cells: &mut Cells, points: &mut Points) -> u8
 }
 
 // The low 8 bits. a: the colour's long.
-pub fn colour(t: Taken, cells: &mut Cells) -> u8
+pub fn colour(t: Taken, cells: &mut Cells) -> Verdict
     requires { ⌜ CellsFull (now cells) ⌝ }
     ensures { λ q. ⌜ ((n : ℕ) → Goes q (answers t (λ o. rule Op.Colour o n)) (now (cells .entry)) (now (cells .exit))) ⌝ }
 {
     match t {
-        Taken::Refused(n) => n,
+        Taken::Refused(v) => v,
         Taken::Got(o, next) => {
             set_colour(cells, low8(o.a));
             finish(cells, next)
@@ -89,17 +91,17 @@ pub fn colour(t: Taken, cells: &mut Cells) -> u8
 }
 
 // a, b: x and y.
-pub fn move_to(t: Taken, cells: &mut Cells, points: &mut Points) -> u8
+pub fn move_to(t: Taken, cells: &mut Cells, points: &mut Points) -> Verdict
     requires { ⌜ CellsFull (now cells) × PointsFull (now points) ⌝ }
     ensures { λ q.
         ⌜ ((n : ℕ) → Moves q (answers t (λ o. rule Op.MoveTo o n))
         (now (cells .entry)) (now (cells .exit)) (now (points .entry)) (now (points .exit))) ⌝ }
 {
     match t {
-        Taken::Refused(n) => n,
+        Taken::Refused(v) => v,
         Taken::Got(o, next) => {
             let Point::At(p) = point_of(o.a, o.b) else {
-                return 25;
+                return refuse(&*cells, 25);
             };
             set_position(points, p);
             finish(cells, next)
@@ -108,18 +110,18 @@ pub fn move_to(t: Taken, cells: &mut Cells, points: &mut Points) -> u8
 }
 
 // a, b: dx and dy.
-pub fn move_by(t: Taken, cells: &mut Cells, points: &mut Points) -> u8
+pub fn move_by(t: Taken, cells: &mut Cells, points: &mut Points) -> Verdict
     requires { ⌜ CellsFull (now cells) × PointsFull (now points) ⌝ }
     ensures { λ q.
         ⌜ ((n : ℕ) → Moves q (answers t (λ o. rule Op.MoveBy o n))
         (now (cells .entry)) (now (cells .exit)) (now (points .entry)) (now (points .exit))) ⌝ }
 {
     match t {
-        Taken::Refused(n) => n,
+        Taken::Refused(v) => v,
         Taken::Got(o, next) => {
             let here = position(&*points);
             let Point::At(p) = point_by(here, o.a, o.b) else {
-                return 25;
+                return refuse(&*cells, 25);
             };
             set_position(points, p);
             finish(cells, next)

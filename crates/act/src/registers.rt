@@ -1,6 +1,8 @@
 // The registers that opcodes change, lent as two arrays.
 use numbers::place::WordIndex;
 use numbers::value::low8;
+use player::Verdict;
+use player::carrying_0;
 use raster::dots::Dot;
 use raster::frame::Bounds;
 use raster::frame::Frame;
@@ -9,13 +11,15 @@ use rules::environment::Registers;
 ghost use mathlib.Core.Path.{_≡_};
 ghost use mathlib.Core.List.{List};
 ghost use Prim.Native.Nat.{ℕ};
+ghost use Rattle.player.specs.declared.State.the-variants.{Ended};
+ghost use Rattle.player.specs.Player.{fault, verdict};
 ghost use Rattle.rules.specs.Environment as Environment;
 ghost use Rattle.rules.specs.Environment.{goto, compared, clipped, coloured, stated, moved, windowed, stateOf};
 ghost use Rattle.act.specs.Lent as Lent;
 ghost use Rattle.act.specs.Lent.{registers, celled, pointed, look, CellsFull, PointsFull, Recelled, Repointed, Deepened};
 
 // Numbers, each at the place where the functions below read it.
-pub type Cells = [u32; 7];
+pub type Cells = [u32; 8];
 
 // Coordinates: 0 and 1 position, 2 to 5 window.
 pub type Points = [i32; 6];
@@ -32,6 +36,7 @@ pub fn cells_of(r: Registers) -> Cells
         r.mode,
         r.colour as u32,
         r.state as u32,
+        r.place.0,
     ]
 }
 
@@ -55,6 +60,7 @@ pub fn gathered(cells: &Cells, points: &Points) -> Registers
         second: second(cells),
         counter: counter(cells),
         depth: depth(cells),
+        place: place(cells),
         colour: colour(cells),
         state: state(cells),
     }
@@ -74,21 +80,31 @@ fn set_counter(cells: &mut Cells, i: WordIndex)
 }
 
 // The last thing that an opcode does: the list goes on at i, and 0, nothing is to be painted.
-pub fn finish(cells: &mut Cells, i: WordIndex) -> u8
+pub fn finish(cells: &mut Cells, i: WordIndex) -> Verdict
     requires { ⌜ CellsFull (now cells) ⌝ }
-    ensures { λ q. ⌜ (q ≡ 0) × Recelled (goto i) (now (cells .entry)) (now (cells .exit)) ⌝ }
+    ensures { λ v. ⌜ (v ≡ verdict 0) × Recelled (goto i) (now (cells .entry)) (now (cells .exit)) ⌝ }
 {
     set_counter(cells, i);
-    0
+    carrying_0(0)
 }
 
 // The same of an opcode that paints: 1, what the brush holds is to be painted.
-pub fn finish_painting(cells: &mut Cells, i: WordIndex) -> u8
+pub fn finish_painting(cells: &mut Cells, i: WordIndex) -> Verdict
     requires { ⌜ CellsFull (now cells) ⌝ }
-    ensures { λ q. ⌜ (q ≡ 1) × Recelled (goto i) (now (cells .entry)) (now (cells .exit)) ⌝ }
+    ensures { λ v. ⌜ (v ≡ verdict 1) × Recelled (goto i) (now (cells .entry)) (now (cells .exit)) ⌝ }
 {
     set_counter(cells, i);
-    1
+    carrying_0(1)
+}
+
+// An opcode that is refused, where it begins.
+pub fn refuse(cells: &Cells, number: u8) -> Verdict
+    ensures { λ v. ⌜ v ≡ fault number (celled (now (cells .entry)) .counter) ⌝ }
+{
+    Verdict {
+        number,
+        place: counter(cells),
+    }
 }
 
 pub fn first(cells: &Cells) -> u32
@@ -156,11 +172,26 @@ pub fn state(cells: &Cells) -> u8
     low8(cells[6])
 }
 
-pub fn set_state(cells: &mut Cells, n: u8)
-    requires { ⌜ CellsFull (now cells) ⌝ }
-    ensures { λ _. ⌜ Recelled (stated (stateOf n)) (now (cells .entry)) (now (cells .exit)) ⌝ }
+fn place(cells: &Cells) -> WordIndex
+    ensures { λ r. ⌜ r ≡ celled (now (cells .entry)) .place ⌝ }
 {
-    cells[6] = n as u32;
+    WordIndex(cells[7])
+}
+
+// The state that a number and a place stand for.
+pub fn set_state(cells: &mut Cells, v: Verdict)
+    requires { ⌜ CellsFull (now cells) ⌝ }
+    ensures { λ _. ⌜ Recelled (stated (stateOf v)) (now (cells .entry)) (now (cells .exit)) ⌝ }
+{
+    cells[6] = v.number as u32;
+    cells[7] = v.place.0;
+}
+
+pub fn set_ended(cells: &mut Cells)
+    requires { ⌜ CellsFull (now cells) ⌝ }
+    ensures { λ _. ⌜ Recelled (stated Ended) (now (cells .entry)) (now (cells .exit)) ⌝ }
+{
+    set_state(cells, carrying_0(1));
 }
 
 pub fn position(points: &Points) -> Dot

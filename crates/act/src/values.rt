@@ -2,10 +2,12 @@
 use crate::registers::Cells;
 use crate::registers::finish;
 use crate::registers::keep_compared;
+use crate::registers::refuse;
 use fetch::source::Taken;
 use numbers::arith;
 use numbers::arith::Division;
 use numbers::place::WordIndex;
+use player::Verdict;
 use rules::opcode::Operands;
 ghost use mathlib.Core.Path.{_≡_};
 ghost use Prim.Native.Nat.{ℕ, _<_};
@@ -31,7 +33,7 @@ fn old(o: Operands, vars: &[u32; 64]) -> u32
 }
 
 // A value into Vd.
-fn put(o: Operands, next: WordIndex, v: u32, cells: &mut Cells, vars: &mut [u32; 64]) -> u8
+fn put(o: Operands, next: WordIndex, v: u32, cells: &mut Cells, vars: &mut [u32; 64]) -> Verdict
     requires { ⌜ (o .dest .0 < 64) × CellsFull (now cells) ⌝ }
     ensures { λ q. ⌜ Sets q (does (gives v o) next) (now (cells .entry)) (now (cells .exit)) (now (vars .entry)) (now (vars .exit)) ⌝ }
 {
@@ -40,14 +42,14 @@ fn put(o: Operands, next: WordIndex, v: u32, cells: &mut Cells, vars: &mut [u32;
     finish(cells, next)
 }
 
-pub fn load(t: Taken, cells: &mut Cells, vars: &mut [u32; 64]) -> u8
+pub fn load(t: Taken, cells: &mut Cells, vars: &mut [u32; 64]) -> Verdict
     requires { ⌜ Destined t × CellsFull (now cells) ⌝ }
     ensures { λ q.
         ⌜ ((n : ℕ) → Sets q (answers t (λ o. rule Op.Load o n))
         (now (cells .entry)) (now (cells .exit)) (now (vars .entry)) (now (vars .exit))) ⌝ }
 {
     match t {
-        Taken::Refused(n) => n,
+        Taken::Refused(v) => v,
         Taken::Got(o, next) => put(o, next, o.a, cells, vars),
     }
 }
@@ -75,14 +77,14 @@ fn calculated(c: Calculation, old: u32, a: u32) -> u32
     }
 }
 
-fn calculate(c: Calculation, t: Taken, cells: &mut Cells, vars: &mut [u32; 64]) -> u8
+fn calculate(c: Calculation, t: Taken, cells: &mut Cells, vars: &mut [u32; 64]) -> Verdict
     requires { ⌜ Destined t × CellsFull (now cells) ⌝ }
     ensures { λ q.
         ⌜ ((n : ℕ) → Sets q (answers t (λ o. rule (opOf c) o n))
         (now (cells .entry)) (now (cells .exit)) (now (vars .entry)) (now (vars .exit))) ⌝ }
 {
     match t {
-        Taken::Refused(n) => n,
+        Taken::Refused(v) => v,
         Taken::Got(o, next) => {
             let v = calculated(c, old(o, &*vars), o.a);
             put(o, next, v, cells, vars)
@@ -90,7 +92,7 @@ fn calculate(c: Calculation, t: Taken, cells: &mut Cells, vars: &mut [u32; 64]) 
     }
 }
 
-pub fn add(t: Taken, cells: &mut Cells, vars: &mut [u32; 64]) -> u8
+pub fn add(t: Taken, cells: &mut Cells, vars: &mut [u32; 64]) -> Verdict
     requires { ⌜ Destined t × CellsFull (now cells) ⌝ }
     ensures { λ q.
         ⌜ ((n : ℕ) → Sets q (answers t (λ o. rule Op.Add o n))
@@ -99,7 +101,7 @@ pub fn add(t: Taken, cells: &mut Cells, vars: &mut [u32; 64]) -> u8
     calculate(Calculation::Sum, t, cells, vars)
 }
 
-pub fn and(t: Taken, cells: &mut Cells, vars: &mut [u32; 64]) -> u8
+pub fn and(t: Taken, cells: &mut Cells, vars: &mut [u32; 64]) -> Verdict
     requires { ⌜ Destined t × CellsFull (now cells) ⌝ }
     ensures { λ q.
         ⌜ ((n : ℕ) → Sets q (answers t (λ o. rule Op.And o n))
@@ -108,7 +110,7 @@ pub fn and(t: Taken, cells: &mut Cells, vars: &mut [u32; 64]) -> u8
     calculate(Calculation::And, t, cells, vars)
 }
 
-pub fn or(t: Taken, cells: &mut Cells, vars: &mut [u32; 64]) -> u8
+pub fn or(t: Taken, cells: &mut Cells, vars: &mut [u32; 64]) -> Verdict
     requires { ⌜ Destined t × CellsFull (now cells) ⌝ }
     ensures { λ q.
         ⌜ ((n : ℕ) → Sets q (answers t (λ o. rule Op.Or o n))
@@ -117,7 +119,7 @@ pub fn or(t: Taken, cells: &mut Cells, vars: &mut [u32; 64]) -> u8
     calculate(Calculation::Or, t, cells, vars)
 }
 
-pub fn multiply(t: Taken, cells: &mut Cells, vars: &mut [u32; 64]) -> u8
+pub fn multiply(t: Taken, cells: &mut Cells, vars: &mut [u32; 64]) -> Verdict
     requires { ⌜ Destined t × CellsFull (now cells) ⌝ }
     ensures { λ q.
         ⌜ ((n : ℕ) → Sets q (answers t (λ o. rule Op.Multiply o n))
@@ -126,7 +128,7 @@ pub fn multiply(t: Taken, cells: &mut Cells, vars: &mut [u32; 64]) -> u8
     calculate(Calculation::Product, t, cells, vars)
 }
 
-pub fn increment(t: Taken, cells: &mut Cells, vars: &mut [u32; 64]) -> u8
+pub fn increment(t: Taken, cells: &mut Cells, vars: &mut [u32; 64]) -> Verdict
     requires { ⌜ Destined t × CellsFull (now cells) ⌝ }
     ensures { λ q.
         ⌜ ((n : ℕ) → Sets q (answers t (λ o. rule Op.Increment o n))
@@ -135,7 +137,7 @@ pub fn increment(t: Taken, cells: &mut Cells, vars: &mut [u32; 64]) -> u8
     calculate(Calculation::OneMore, t, cells, vars)
 }
 
-pub fn decrement(t: Taken, cells: &mut Cells, vars: &mut [u32; 64]) -> u8
+pub fn decrement(t: Taken, cells: &mut Cells, vars: &mut [u32; 64]) -> Verdict
     requires { ⌜ Destined t × CellsFull (now cells) ⌝ }
     ensures { λ q.
         ⌜ ((n : ℕ) → Sets q (answers t (λ o. rule Op.Decrement o n))
@@ -151,26 +153,26 @@ fn put_unless_zero(
     x: Division,
     cells: &mut Cells,
     vars: &mut [u32; 64],
-) -> u8
+) -> Verdict
     requires { ⌜ (o .dest .0 < 64) × CellsFull (now cells) ⌝ }
     ensures { λ q.
         ⌜ ((v : ℕ) → x ≡ unlessZero (o .a) v
         → Sets q (does (λ e. refuse 26 (eqb (o .a) 0) (gives v o e)) next) (now (cells .entry)) (now (cells .exit)) (now (vars .entry)) (now (vars .exit))) ⌝ }
 {
     match x {
-        Division::ByZero => 26,
+        Division::ByZero => refuse(&*cells, 26),
         Division::Gives(v) => put(o, next, v, cells, vars),
     }
 }
 
-pub fn divide(t: Taken, cells: &mut Cells, vars: &mut [u32; 64]) -> u8
+pub fn divide(t: Taken, cells: &mut Cells, vars: &mut [u32; 64]) -> Verdict
     requires { ⌜ Destined t × CellsFull (now cells) ⌝ }
     ensures { λ q.
         ⌜ ((n : ℕ) → Sets q (answers t (λ o. rule Op.Divide o n))
         (now (cells .entry)) (now (cells .exit)) (now (vars .entry)) (now (vars .exit))) ⌝ }
 {
     match t {
-        Taken::Refused(n) => n,
+        Taken::Refused(v) => v,
         Taken::Got(o, next) => {
             let x = arith::quotient(old(o, &*vars), o.a);
             put_unless_zero(o, next, x, cells, vars)
@@ -178,14 +180,14 @@ pub fn divide(t: Taken, cells: &mut Cells, vars: &mut [u32; 64]) -> u8
     }
 }
 
-pub fn remainder(t: Taken, cells: &mut Cells, vars: &mut [u32; 64]) -> u8
+pub fn remainder(t: Taken, cells: &mut Cells, vars: &mut [u32; 64]) -> Verdict
     requires { ⌜ Destined t × CellsFull (now cells) ⌝ }
     ensures { λ q.
         ⌜ ((n : ℕ) → Sets q (answers t (λ o. rule Op.Remainder o n))
         (now (cells .entry)) (now (cells .exit)) (now (vars .entry)) (now (vars .exit))) ⌝ }
 {
     match t {
-        Taken::Refused(n) => n,
+        Taken::Refused(v) => v,
         Taken::Got(o, next) => {
             let x = arith::remainder(old(o, &*vars), o.a);
             put_unless_zero(o, next, x, cells, vars)
@@ -194,14 +196,14 @@ pub fn remainder(t: Taken, cells: &mut Cells, vars: &mut [u32; 64]) -> u8
 }
 
 // Vd's value is kept first, the other second.
-pub fn compare(t: Taken, cells: &mut Cells, vars: &[u32; 64]) -> u8
+pub fn compare(t: Taken, cells: &mut Cells, vars: &[u32; 64]) -> Verdict
     requires { ⌜ Destined t × CellsFull (now cells) ⌝ }
     ensures { λ q.
         ⌜ ((n : ℕ) → Sets q (answers t (λ o. rule Op.Compare o n))
         (now (cells .entry)) (now (cells .exit)) (now (vars .entry)) (now (vars .entry))) ⌝ }
 {
     match t {
-        Taken::Refused(n) => n,
+        Taken::Refused(v) => v,
         Taken::Got(o, next) => {
             keep_compared(cells, old(o, vars), o.a);
             finish(cells, next)

@@ -10,7 +10,8 @@ use lib.Dec.{ltb}
 use lib.IntN.{ℤ}
 use Rattle.numbers.specs.declared.place.WordIndex.{WordIndex}
 use Rattle.raster.specs.declared.frame.Bounds.{Bounds}
-use Rattle.player.specs.Player.{verdict, Outcome, refused}
+use Rattle.player.specs.declared.Verdict.{Verdict}
+use Rattle.player.specs.Player.{fault, Outcome, refused}
 use Rattle.player.specs.Shown.{shown}
 use Rattle.rules.specs.declared.opcode.Operands.{Operands}
 use Rattle.rules.specs.Table.{formOf}
@@ -37,20 +38,21 @@ pub record Here (w cs : List ℕ) (ps : List ℤ) (vs st p : List ℕ) (pc : ℕ
   pub inside : pc < length w
 
 module _ {w cs : List ℕ} {ps : List ℤ} {vs st p : List ℕ} where
-  -- refused with 2 + n, and all stays
-  refuses : Able w cs ps vs st p → (n : ℕ) → ((b : Bounds) → step w (look b cs ps vs st) ≡ refused (verdict (suc (suc n))))
-      → Steps (suc (suc n)) w cs ps vs st cs ps vs st p
-  refuses r n d =
+  -- refused with 2 + n where the opcode begins or was due, and all stays
+  refuses : Able w cs ps vs st p → (n : ℕ) {v : Verdict} → v ≡ fault (suc (suc n)) (celled cs .counter)
+      → ((b : Bounds) → step w (look b cs ps vs st) ≡ refused (fault (suc (suc n)) (celled cs .counter))) → Steps v w cs ps vs st cs ps vs st p
+  refuses r n told d =
       record {
         cells = r .cells;
         points = r .points;
         full = r .full;
         brush = r .brush;
-        tells = λ b. sym (ap (λ (x : Outcome Env). shown x (look b cs ps vs st)) (d b));
+        tells = λ b. rw told (sym (ap (λ (x : Outcome Env). shown x (look b cs ps vs st)) (d b)));
       }
 
-  pub step-20 : Able w cs ps vs st p → {pc : ℕ} → pc ≡ celled cs .counter .0 → length w ≤ pc → Steps 20 w cs ps vs st cs ps vs st p
-  step-20 r e l = refuses r 18 (λ b. Fetched.step-20 w (look b cs ps vs st) (rw (← e) l))
+  pub step-20 : Able w cs ps vs st p → {pc : ℕ} → pc ≡ celled cs .counter .0 → length w ≤ pc → {v : Verdict} → v ≡ fault 20 (celled cs .counter)
+      → Steps v w cs ps vs st cs ps vs st p
+  step-20 r e l told = refuses r 18 told (λ b. Fetched.step-20 w (look b cs ps vs st) (rw (← e) l))
 
   module _ {pc : ℕ} (h : Here w cs ps vs st p pc) where
     -- ---- what fetch and act ask
@@ -99,31 +101,32 @@ module _ {w cs : List ℕ} {ps : List ℤ} {vs st p : List ℕ} where
           by-meaning Unknown k = sym (ap (λ (x : Outcome Env). shown x (look b cs ps vs st)) (Fetched.step-21 w (look b cs ps vs st) inside k))
           by-meaning (Known op source) k =
               rw (Fetched.step-taken w (look b cs ps vs st) inside {op = op} {s = source} k)
-              (go (operands source w (celled cs .counter .0) vs) _ (ltb (length w) (celled cs .counter .0 + sizeOf source)) (ltb 63 (highest source w (celled cs .counter .0) 1)))
+              (go (operands source w (celled cs .counter .0) vs) _ _ (ltb (length w) (celled cs .counter .0 + sizeOf source)) (ltb 63 (highest source w (celled cs .counter .0) 1)))
             where
-              go : (o : Operands) (next : WordIndex) (x y : Bool) → let t = cond x (Refused 22) (cond y (Refused 23) (Got o next)) in
+              go : (o : Operands) (next i : WordIndex) (x y : Bool)
+                  → let t = cond x (Refused (fault 22 (celled cs .counter))) (cond y (Refused (fault 23 i)) (Got o next)) in
                   answers t (λ o. rule op o (length w)) (look b cs ps vs st) p ≡ shown (Fetched.resolved w (look b cs ps vs st) inside op t) (look b cs ps vs st)
-              go o next true y = refl
-              go o next false true = refl
-              go o next false false = refl
+              go o next i true y = refl
+              go o next i false true = refl
+              go o next i false false = refl
 
       -- so a group's promise is the step's
-      module _ {q : ℕ} {cs' : List ℕ} where
-        pub step-sets : {vs' : List ℕ} → Sets q (shows m w pc vs) cs cs' vs vs' → Steps q w cs ps vs st cs' ps vs' st p
+      module _ {v : Verdict} {cs' : List ℕ} where
+        pub step-sets : {vs' : List ℕ} → Sets v (shows m w pc vs) cs cs' vs vs' → Steps v w cs ps vs st cs' ps vs' st p
         step-sets r =
             record { cells = r .cells; points = h .ready .points; full = h .ready .full; brush = h .ready .brush; tells = λ b. r .tells b ps st p ∙ is-step b p }
 
-        pub step-stacks : {st' : List ℕ} → Stacks q (shows m w pc vs) cs cs' st st' → Steps q w cs ps vs st cs' ps vs st' p
+        pub step-stacks : {st' : List ℕ} → Stacks v (shows m w pc vs) cs cs' st st' → Steps v w cs ps vs st cs' ps vs st' p
         step-stacks r =
             record { cells = r .cells; points = h .ready .points; full = r .deep; brush = h .ready .brush; tells = λ b. r .tells b ps vs p ∙ is-step b p }
 
-        pub step-moves : {ps' : List ℤ} → Moves q (shows m w pc vs) cs cs' ps ps' → Steps q w cs ps vs st cs' ps' vs st p
+        pub step-moves : {ps' : List ℤ} → Moves v (shows m w pc vs) cs cs' ps ps' → Steps v w cs ps vs st cs' ps' vs st p
         step-moves r =
             record { cells = r .cells; points = r .points; full = h .ready .full; brush = h .ready .brush; tells = λ b. r .tells b vs st p ∙ is-step b p }
 
-        pub step-draws : {ps' : List ℤ} {p' : List ℕ} → Draws q (shows m w pc vs) cs cs' ps ps' p' → Steps q w cs ps vs st cs' ps' vs st p'
+        pub step-draws : {ps' : List ℤ} {p' : List ℕ} → Draws v (shows m w pc vs) cs cs' ps ps' p' → Steps v w cs ps vs st cs' ps' vs st p'
         step-draws {p' = p'} r =
             record { cells = r .cells; points = r .points; full = h .ready .full; brush = r .brush; tells = λ b. r .tells b vs st ∙ is-step b p' }
 
-    pub step-21 : meaning (formOf (at w pc)) ≡ Unknown → Steps 21 w cs ps vs st cs ps vs st p
-    step-21 k = refuses (h .ready) 19 (λ b. Fetched.step-21 w (look b cs ps vs st) inside (rw (h .counter) at k))
+    pub step-21 : meaning (formOf (at w pc)) ≡ Unknown → {v : Verdict} → v ≡ fault 21 (celled cs .counter) → Steps v w cs ps vs st cs ps vs st p
+    step-21 k told = refuses (h .ready) 19 told (λ b. Fetched.step-21 w (look b cs ps vs st) inside (rw (h .counter) at k))

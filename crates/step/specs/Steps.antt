@@ -6,7 +6,8 @@ use mathlib.Core.List.{List}
 use lib.ListN.{length}
 use lib.IntN.{ℤ}
 use Rattle.raster.specs.declared.frame.Bounds.{Bounds}
-use Rattle.player.specs.Player.{verdict}
+use Rattle.player.specs.declared.Verdict.{Verdict}
+use Rattle.player.specs.Player.{fault}
 use Rattle.player.specs.Shown.{shown, stayed}
 use Rattle.rules.specs.Meaning.{Meaning, Unknown, Known}
 use Rattle.rules.specs.Opcodes.{rule}
@@ -19,7 +20,7 @@ use Rattle.act.specs.Contracts.{Showing, Brushed}
 
 -- what the opcode at pc must show, by what it means
 unfoldable pub shows : Meaning → List ℕ → ℕ → List ℕ → Showing
-shows Unknown w pc vs = λ e p. stayed (verdict 21) e
+shows Unknown w pc vs = λ e p. stayed (fault 21 (record { 0 = pc })) e
 shows (Known op source) w pc vs = answers (takenOf source w pc vs) (λ o. rule op o (length w))
 
 -- what the door establishes, and every opcode leaves: with some size and pane, all is in range
@@ -33,9 +34,9 @@ pub record Able (w cs : List ℕ) (ps : List ℤ) (vs st p : List ℕ) : Type 0 
   pub brush : Brushed p
 
 -- what came back from one opcode is what the rules say, with all that is lent before and after, whatever the size and the pane
-pub record Steps (q : ℕ) (w cs : List ℕ) (ps : List ℤ) (vs st cs' : List ℕ) (ps' : List ℤ) (vs' st' p' : List ℕ) : Type 0 where
+pub record Steps (v : Verdict) (w cs : List ℕ) (ps : List ℤ) (vs st cs' : List ℕ) (ps' : List ℤ) (vs' st' p' : List ℕ) : Type 0 where
   pub cells : CellsFull cs'
   pub points : PointsFull ps'
   pub full : length st' ≡ 16
   pub brush : Brushed p'
-  pub tells : (b : Bounds) → seen q (look b cs' ps' vs' st') p' ≡ shown (step w (look b cs ps vs st)) (look b cs ps vs st)
+  pub tells : (b : Bounds) → seen v (look b cs' ps' vs' st') p' ≡ shown (step w (look b cs ps vs st)) (look b cs ps vs st)

@@ -9,7 +9,10 @@ pub back-spec : {M : Type 1} → statement M
 back-spec =
     tie.close (tie.spec
     (λ c κs. search needs)
-    (λ c o n next. back-29 o n next (c .before .before .before .pre) (c .before .depth .ensures) (c .if1 .taken))
+    (λ c κs. search needs)
+    (λ d o n next.
+    let c = d .before .before in
+    back-29 o n next (c .before .before .before .pre) (c .before .depth .ensures) (c .if1 .taken) (d .refuse .ensures))
     (λ c. search needs) (λ c κs. search needs) (λ c. search needs)
     (λ c κs. (omega arith, search needs))
     (λ c κs. search needs)

@@ -7,14 +7,18 @@ use Rattle.act.proofs.flow.call_to.Tie as tie
 pub call-to-spec : {M : Type 1} → statement M
 call-to-spec =
     tie.close (tie.spec
-    (λ c. search needs) (λ c. search needs) (λ c κs. search needs)
-    (λ c.
+    (λ c. search needs) (λ c κs. search needs) (λ c. search needs) (λ c κs. search needs) (λ c κs. search needs)
+    (λ d.
+    let c = d .before .before in
     let a = c .before in
     let t = a .before .before .before in
     let s = t .before .before in
-    call-28 _ (s .args .next) (s .pre) (t .t .given .1) (a .depth .ensures) (c .if1 .taken))
+    call-28 _ (s .args .next) (s .pre) (t .t .given .1) (a .depth .ensures) (c .if1 .taken) (d .refuse2 .ensures))
     (λ c κs. search needs) (λ c. search needs) (λ c κs. search needs) (λ c κs. search needs)
-    (λ c. let s = c .before .before in call-27 _ (s .args .next) (s .pre) (c .enum-told .given .1))
+    (λ d.
+    let c = d .before .before in
+    let s = c .before .before in
+    call-27 _ (s .args .next) (s .pre) (c .enum-told .given .1) (d .refuse .ensures))
     (λ c.
     let k = c .before .before .before .before in
     let i = k .before .before in

@@ -1,9 +1,8 @@
--- `end`: the state's byte is ended's.
+-- `end`: the state is ended.
 use mathlib.Core.Path.{refl}
 use borrow.Author.Needs.{needs}
 use Rattle.act.proofs.Acting.{paints-nothing}
 use Rattle.act.proofs.Handing.{passed-goes, got-goes, settled, then}
-use Rattle.act.proofs.LentLaws.{ended}
 use Rattle.act.proofs.flow.end.Statement.{statement}
 use Rattle.act.proofs.flow.end.Tie as tie
 
@@ -14,6 +13,6 @@ end-spec =
     (λ c n. passed-goes _ (c .before .t .given .1) (c .before .before .before .pre))
     (λ c n.
     let g = c .finish .ensures in
-    let r = then (ended (c .before .before .set-state .ensures)) (g .1) in
+    let r = then (c .before .before .set-ended .ensures) (g .1) in
     got-goes _ (c .before .before .before .before .before .t2 .given .1)
     (record { cells = r .full; tells = λ b ps vs st s. paints-nothing _ _ _ s refl refl (settled s (g .0) (r .shows b ps vs st)) })))

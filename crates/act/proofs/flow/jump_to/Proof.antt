@@ -7,26 +7,28 @@ use Rattle.act.proofs.flow.jump_to.Tie as tie
 pub jump-to-spec : {M : Type 1} → statement M
 jump-to-spec =
     tie.close (tie.spec
-    (λ c κs. search needs) (λ c κs. search needs) (λ c κs. search needs) (λ c. search needs) (λ c. search needs) (λ c κs. search needs)
-    (λ c. search needs) (λ c. search needs) (λ c. search needs) (λ c κs. search needs)
-    (λ c.
+    (λ c κs. search needs) (λ c κs. search needs) (λ c κs. search needs) (λ c. search needs) (λ c κs. search needs) (λ c. search needs) (λ c κs. search needs)
+    (λ c. search needs) (λ c. search needs) (λ c κs. search needs) (λ c. search needs) (λ c κs. search needs)
+    (λ d.
+    let c = d .before .before in
     let a = c .before .before in
     let f = a .before .before .before in
     let s = f .before .before in
-    jump-24 _ (s .args .t) (s .args .next) _ (f .first .ensures) (a .before .second .ensures) (a .condition-of .ensures) (c .enum-told .given .1) (s .pre))
+    jump-24 _ (s .args .t) (s .args .next) _ (f .first .ensures) (a .before .second .ensures) (a .condition-of .ensures) (c .enum-told .given .1) (s .pre) (d .refuse .ensures))
     (λ c.
     let h = c .before .before in
     let a = h .before .before in
     let f = a .before .before .before in
     jump-no _ (f .before .before .args .t) _ _ (f .first .ensures) (a .before .second .ensures) (a .condition-of .ensures) (h .enum-told2 .given .1)
     (c .finish .ensures))
-    (λ c.
+    (λ d.
+    let c = d .before .before in
     let h = c .before .before in
     let a = h .before .before in
     let f = a .before .before .before in
     let s = f .before .before in
     jump-27 _ _ (s .args .next) _ (f .first .ensures) (a .before .second .ensures) (a .condition-of .ensures) (h .enum-told3 .given .1)
-    (c .enum-told4 .given .1) (s .pre))
+    (c .enum-told4 .given .1) (s .pre) (d .refuse2 .ensures))
     (λ c.
     let t = c .before .before .before in
     let h = t .before .before in

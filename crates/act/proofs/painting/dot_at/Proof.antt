@@ -10,11 +10,13 @@ pub dot-at-spec : {M : Type 1} → statement M
 dot-at-spec =
     tie.close (tie.spec
     (λ c κs. search needs) (λ c. search needs) (λ c. search needs)
-    (λ c.
+    (λ c κs. search needs)
+    (λ d.
+    let c = d .before .before in
     let at = c .before .before in
     let out = told-outside _ _ (at .point-of .ensures) (c .enum-told .given .1) in
     let pre = at .before .pre in
-    record { cells = pre .0; brush = pre .1; tells = λ b ps vs st. stays _ _ _ _ {n = 25} (rw out) refl })
+    record { cells = pre .0; brush = pre .1; tells = λ b ps vs st. stays _ _ _ _ {n = 25} (rw out) (rw (d .refuse .ensures)) })
     (λ c κs.
     let w = c .before .before in
     let at = w .before .before in

@@ -11,21 +11,27 @@ pub line-spec : {M : Type 1} → statement M
 line-spec =
     tie.close (tie.spec
     (λ c. search needs) (λ c. search needs) (λ c κs. search needs)
-    (λ c n.
+    (λ c κs. search needs)
+    (λ d n.
+    let c = d .before .before in
     let t = c .before .before .before in
     let pre = t .before .before .pre in
     got-paints _ (t .t2 .given .1)
-    (record { cells = pre .0; brush = pre .1; tells = λ b ps vs st. stays _ _ _ _ {n = 24} (rw (sym (c .before .other-type .ensures) ∙ c .if1 .taken)) refl }))
+    (record { cells = pre .0; brush = pre .1; tells = λ b ps vs st. stays _ _ _ _ {n = 24} (rw (sym (c .before .other-type .ensures) ∙ c .if1 .taken)) (rw (d .refuse .ensures)) }))
     (λ c κs. search needs) (λ c. search needs) (λ c. search needs)
-    (λ c n.
+    (λ c κs. search needs)
+    (λ d n.
+    let c = d .before .before in
     let first = c .before .before in
     let t = first .before .before .before .before in
     let pre = t .before .before .pre in
     let out = told-outside _ _ (first .point-of .ensures) (c .enum-told .given .1) in
     got-paints _ (t .t2 .given .1)
-    (record { cells = pre .0; brush = pre .1; tells = λ b ps vs st. stays _ _ _ _ {n = 25} (rw (sym (first .before .before .other-type .ensures) ∙ first .before .if1 .left, out)) refl }))
+    (record { cells = pre .0; brush = pre .1; tells = λ b ps vs st. stays _ _ _ _ {n = 25} (rw (sym (first .before .before .other-type .ensures) ∙ first .before .if1 .left, out)) (rw (d .refuse2 .ensures)) }))
     (λ c κs. search needs) (λ c. search needs) (λ c. search needs)
-    (λ c n.
+    (λ c κs. search needs)
+    (λ d n.
+    let c = d .before .before in
     let second = c .before .before in
     let first = second .before .before .before .before in
     let t = first .before .before .before .before in
@@ -33,7 +39,7 @@ line-spec =
     let p = told-at _ _ (first .point-of .ensures) (second .before .before .p .given .1) in
     let out = told-outside _ _ (second .point-of2 .ensures) (c .enum-told2 .given .1) in
     got-paints _ (t .t2 .given .1)
-    (record { cells = pre .0; brush = pre .1; tells = λ b ps vs st. stays _ _ _ _ {n = 25} (rw (sym (first .before .before .other-type .ensures) ∙ first .before .if1 .left, p .0, out)) refl }))
+    (record { cells = pre .0; brush = pre .1; tells = λ b ps vs st. stays _ _ _ _ {n = 25} (rw (sym (first .before .before .other-type .ensures) ∙ first .before .if1 .left, p .0, out)) (rw (d .refuse3 .ensures)) }))
     (λ c κs. search needs)
     (λ c κs.
     let w = c .before .before .before .before in

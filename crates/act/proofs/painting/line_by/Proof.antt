@@ -13,20 +13,24 @@ pub line-by-spec : {M : Type 1} → statement M
 line-by-spec =
     tie.close (tie.spec
     (λ c. search needs) (λ c. search needs) (λ c κs. search needs)
-    (λ c n.
+    (λ c κs. search needs)
+    (λ d n.
+    let c = d .before .before in
     let t = c .before .before .before in
     let pre = t .before .before .pre in
     got-draws _ (t .t2 .given .1)
-    (record { cells = pre .cells; points = pre .points; brush = pre .brush; tells = λ b vs st. stays _ _ _ _ {n = 24} (rw (sym (c .before .other-type .ensures) ∙ c .if1 .taken)) refl }))
+    (record { cells = pre .cells; points = pre .points; brush = pre .brush; tells = λ b vs st. stays _ _ _ _ {n = 24} (rw (sym (c .before .other-type .ensures) ∙ c .if1 .taken)) (rw (d .refuse .ensures)) }))
     (λ c κs. search needs) (λ c κs. search needs) (λ c. search needs) (λ c. search needs)
-    (λ c n.
+    (λ c κs. search needs)
+    (λ d n.
+    let c = d .before .before in
     let at = c .before .before in
     let here = at .before in
     let t = here .before .before .before .before .before in
     let pre = t .before .before .pre in
     let out = told-outside _ _ (from _ (here .position .ensures) (at .point-by .ensures)) (c .enum-told .given .1) in
     got-draws _ (t .t2 .given .1)
-    (record { cells = pre .cells; points = pre .points; brush = pre .brush; tells = λ b vs st. stays _ _ _ _ {n = 25} (rw (sym (here .before .before .before .other-type .ensures) ∙ here .before .before .if1 .left, out)) refl }))
+    (record { cells = pre .cells; points = pre .points; brush = pre .brush; tells = λ b vs st. stays _ _ _ _ {n = 25} (rw (sym (here .before .before .before .other-type .ensures) ∙ here .before .before .if1 .left, out)) (rw (d .refuse2 .ensures)) }))
     (λ c κs.
     let w = c .before .before .before .before in
     let at = w .before .before in

@@ -11,19 +11,23 @@ pub line-to-spec : {M : Type 1} → statement M
 line-to-spec =
     tie.close (tie.spec
     (λ c. search needs) (λ c. search needs) (λ c κs. search needs)
-    (λ c n.
+    (λ c κs. search needs)
+    (λ d n.
+    let c = d .before .before in
     let t = c .before .before .before in
     let pre = t .before .before .pre in
     got-draws _ (t .t2 .given .1)
-    (record { cells = pre .cells; points = pre .points; brush = pre .brush; tells = λ b vs st. stays _ _ _ _ {n = 24} (rw (sym (c .before .other-type .ensures) ∙ c .if1 .taken)) refl }))
+    (record { cells = pre .cells; points = pre .points; brush = pre .brush; tells = λ b vs st. stays _ _ _ _ {n = 24} (rw (sym (c .before .other-type .ensures) ∙ c .if1 .taken)) (rw (d .refuse .ensures)) }))
     (λ c κs. search needs) (λ c. search needs) (λ c. search needs)
-    (λ c n.
+    (λ c κs. search needs)
+    (λ d n.
+    let c = d .before .before in
     let at = c .before .before in
     let t = at .before .before .before .before in
     let pre = t .before .before .pre in
     let out = told-outside _ _ (at .point-of .ensures) (c .enum-told .given .1) in
     got-draws _ (t .t2 .given .1)
-    (record { cells = pre .cells; points = pre .points; brush = pre .brush; tells = λ b vs st. stays _ _ _ _ {n = 25} (rw (sym (at .before .before .other-type .ensures) ∙ at .before .if1 .left, out)) refl }))
+    (record { cells = pre .cells; points = pre .points; brush = pre .brush; tells = λ b vs st. stays _ _ _ _ {n = 25} (rw (sym (at .before .before .other-type .ensures) ∙ at .before .if1 .left, out)) (rw (d .refuse2 .ensures)) }))
     (λ c κs.
     let w = c .before .before .before .before in
     let at = w .before .before in

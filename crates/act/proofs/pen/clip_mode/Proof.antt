@@ -11,10 +11,12 @@ pub clip-mode-spec : {M : Type 1} → statement M
 clip-mode-spec =
     tie.close (tie.spec
     (λ c. search needs) (λ c. search needs)
-    (λ c n.
+    (λ c κs. search needs)
+    (λ d n.
+    let c = d .before .before in
     let t = c .before .before .before in
     got-goes _ (t .t2 .given .1)
-    (record { cells = t .before .before .pre; tells = λ b ps vs st s. stays _ _ _ s {n = 24} (rw (lt-ltb _ _ (c .if1 .taken))) refl }))
+    (record { cells = t .before .before .pre; tells = λ b ps vs st s. stays _ _ _ s {n = 24} (rw (lt-ltb _ _ (c .if1 .taken))) (rw (d .refuse .ensures)) }))
     (λ c κs. search needs) (λ c κs. search needs)
     (λ c n. passed-goes _ (c .before .t .given .1) (c .before .before .before .pre))
     (λ c n.

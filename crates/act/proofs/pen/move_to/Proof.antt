@@ -12,12 +12,14 @@ pub move-to-spec : {M : Type 1} → statement M
 move-to-spec =
     tie.close (tie.spec
     (λ c. search needs) (λ c. search needs) (λ c κs. search needs) (λ c. search needs) (λ c. search needs)
-    (λ c n.
+    (λ c κs. search needs)
+    (λ d n.
+    let c = d .before .before in
     let at = c .before .before in
     let t = at .before .before in
     let pre = t .before .before .pre in
     let out = told-outside _ _ (at .point-of .ensures) (c .enum-told .given .1) in
-    got-moves _ (t .t2 .given .1) (record { cells = pre .0; points = pre .1; tells = λ b vs st s. stays _ _ _ s {n = 25} (rw out) refl }))
+    got-moves _ (t .t2 .given .1) (record { cells = pre .0; points = pre .1; tells = λ b vs st s. stays _ _ _ s {n = 25} (rw out) (rw (d .refuse .ensures)) }))
     (λ c κs. search needs) (λ c κs. search needs)
     (λ c n. let pre = c .before .before .before .pre in passed-moves _ (c .before .t .given .1) (pre .0) (pre .1))
     (λ c n.

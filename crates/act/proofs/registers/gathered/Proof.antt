@@ -5,7 +5,7 @@ use Rattle.act.proofs.registers.gathered.Tie as tie
 
 returns : tie.Need-returns
 returns c =
-    let counter = c .before .before .before in
+    let counter = c .before .before .before .before in
     let mode = counter .before .before .before in
     rw (
       mode .before .before .position .ensures,
@@ -14,7 +14,8 @@ returns c =
       counter .before .before .first .ensures,
       counter .before .second .ensures,
       counter .counter .ensures,
-      c .before .before .depth .ensures,
+      c .before .before .before .depth .ensures,
+      c .before .before .place .ensures,
       c .before .colour .ensures,
       c .state .ensures,
     )
@@ -24,5 +25,5 @@ gathered-spec =
     tie.close
     (tie.spec
     (λ c κs. search needs) (λ c κs. search needs) (λ c κs. search needs) (λ c κs. search needs) (λ c κs. search needs)
-    (λ c κs. search needs) (λ c κs. search needs) (λ c κs. search needs) (λ c κs. search needs)
+    (λ c κs. search needs) (λ c κs. search needs) (λ c κs. search needs) (λ c κs. search needs) (λ c κs. search needs)
     returns)

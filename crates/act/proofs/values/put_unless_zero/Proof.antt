@@ -7,8 +7,11 @@ use Rattle.act.proofs.values.put_unless_zero.Tie as tie
 pub put-unless-zero-spec : {M : Type 1} → statement M
 put-unless-zero-spec =
     tie.close (tie.spec
-    (λ c. search needs) (λ c. search needs) (λ c κs. search needs)
-    (λ c v is. let s = c .before .before in by-zero (s .args .o) (s .args .next) v is (c .enum-told .given .1) (s .pre .1))
+    (λ c. search needs) (λ c κs. search needs) (λ c. search needs) (λ c κs. search needs)
+    (λ d v is.
+    let c = d .before .before in
+    let s = c .before .before in
+    by-zero (s .args .o) (s .args .next) v is (c .enum-told .given .1) (s .pre .1) (d .refuse .ensures))
     (λ c v is.
     let t = c .before .before .before .before in
     let s = t .before .before .args in

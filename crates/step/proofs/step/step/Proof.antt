@@ -33,11 +33,15 @@ step-spec =
     (tie.spec
     (λ c κs. search needs)
     (λ c. search needs)
-    (λ c. step-20 (c .before .before .before .before .before .pre) (index (c .before .before .counter .ensures)) (c .if1 .taken))
+    (λ c κs. search needs)
+    (λ d.
+    let c = d .before .before in
+    step-20 (c .before .before .before .before .before .pre) (index (c .before .before .counter .ensures)) (c .if1 .taken) (d .refuse .ensures))
     (λ c. search needs)
     (λ c. search needs)
     (λ c κs. search needs)
     (λ c. search needs)
+    (λ c κs. search needs)
     (λ c. search needs)
     (λ c κs. let h = here (c .before .before .before .before .before .before) in (reaches h, stacked h))
     (λ c. search needs)
@@ -46,7 +50,7 @@ step-spec =
     (λ c κs. let h = here (c .before .before .before .before .before .before) in (reaches h, h .ready .cells, h .ready .points))
     (λ c. search needs)
     (λ c κs. let h = here (c .before .before .before .before .before .before .before) in (reaches h, drawable h))
-    (λ c. step-21 (here (c .before .before)) (means (c .before .before) (c .enum-told .given .1)))
+    (λ d. let c = d .before .before in step-21 (here (c .before .before)) (means (c .before .before) (c .enum-told .given .1)) (d .refuse2 .ensures))
     (λ c. let d = c .before .before .before .before .before .before .before in step-stacks (here d) (means d (c .before .before .before .before .before .form .given .1)) (c .step .ensures))
     (λ c. let d = c .before .before .before .before .before .before in step-sets (here d) (means d (c .before .before .before .before .form2 .given .1)) (c .step2 .ensures))
     (λ c. let d = c .before .before .before .before .before .before .before in step-moves (here d) (means d (c .before .before .before .before .before .form3 .given .1)) (c .step3 .ensures))
