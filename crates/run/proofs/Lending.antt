@@ -5,9 +5,10 @@ use mathlib.Core.List.{List, [], _∷_}
 use lib.IntN.{ℤ}
 use Rattle.numbers.specs.declared.place.WordIndex.{WordIndex}
 use Rattle.raster.specs.declared.frame.Bounds.{Bounds}
-use Rattle.player.specs.Player.{verdict}
+use Rattle.player.specs.declared.Verdict.{Verdict}
+use Rattle.player.specs.Player.{fault}
 use Rattle.player.specs.Run.{Answer, answer}
-use Rattle.player.specs.Shown.{numberOf}
+use Rattle.player.specs.Shown.{verdictOf}
 use Rattle.rules.specs.declared.environment.Registers.{Registers}
 use Rattle.rules.specs.Environment.{Env, view, stateOf}
 use Rattle.act.specs.Lent.{registers, Spread, points, numbers, indexed, look, PointsFull}
@@ -29,6 +30,6 @@ module _ (r : Registers) {cs : List ℕ} {ps : List ℤ} (c : Spread r cs) (p : 
   pub lent : (b : Bounds) (vs : List ℕ) (st : List WordIndex) {ns : List ℕ} → ns ≡ numbers st → look b cs ps vs ns ≡ view b r vs st
   lent b vs st e = rw (p, e, back st) (ap (λ (x : Registers). view b x vs st) (c .reads))
 
-pub answers : (b : Bounds) (r : Registers) (cs : List ℕ) (ps : List ℤ) (vs st s : List ℕ) (n k : ℕ) {is : List WordIndex} {R : Answer Env} → is ≡ indexed st → r ≡ registers cs ps
-    → n ≡ numberOf (stateOf (r .state)) → left (look b cs ps vs st) s k ≡ R → answer (verdict n) (view b r vs is) s k ≡ R
-answers b r cs ps vs st s n k i g h x = rw (h, g, i) x
+pub answers : (b : Bounds) (r : Registers) (cs : List ℕ) (ps : List ℤ) (vs st s : List ℕ) (v : Verdict) (k : ℕ) {is : List WordIndex} {R : Answer Env} → is ≡ indexed st → r ≡ registers cs ps
+    → v ≡ verdictOf (stateOf (fault (r .state) (r .place))) → left (look b cs ps vs st) s k ≡ R → answer v (view b r vs is) s k ≡ R
+answers b r cs ps vs st s v k i g h x = rw (h, g, i) x

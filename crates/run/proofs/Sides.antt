@@ -20,7 +20,7 @@ use Rattle.player.proofs.Promises
 use Rattle.player.proofs.Doors.{refused-whole, run-whole}
 use Rattle.player.proofs.Hosts.{hosted-obeys}
 use Rattle.rules.specs.declared.environment.Env as Held
-use Rattle.rules.specs.Environment.{Env, env, held, stateOf, byteOf}
+use Rattle.rules.specs.Environment.{Env, env, held, stateOf, kept}
 use Rattle.rules.specs.Door.{stateFits, door, machine, whole}
 use Rattle.rules.specs.Door as Door
 use Rattle.rules.proofs.Ranges.{Fits}
@@ -35,7 +35,7 @@ running =
     record {
       Held = Held.Env;
       view = held;
-      Promise = λ q e s r. Door.Promise (q .list) s e (q .budget) (record { number = r .got .told .verdict .number; env = r .got .env; steps = r .got .told .steps }) (r .screen);
+      Promise = λ q e s r. Door.Promise (q .list) s e (q .budget) (record { number = r .got .told .verdict .number; place = r .got .told .verdict .place; env = r .got .env; steps = r .got .told .steps }) (r .screen);
       true-to = λ q e s r p. ap reply p;
     }
 
@@ -50,11 +50,11 @@ obeys : Obeys (callable machine)
 obeys = hosted-obeys machine keeps
 
 -- ---- for every call some answer keeps the promise
-byte-back : (q : State) → stateFits q ≡ true → stateOf (byteOf q) ≡ q
+kept-back : (q : State) → stateFits q ≡ true → stateOf (kept q) ≡ q
 unfolding stateOf
-byte-back Running h = refl
-byte-back Ended h = refl
-byte-back (Stopped v) h = stopped-state (v .number) h
+kept-back Running h = refl
+kept-back Ended h = refl
+kept-back (Stopped v) h = stopped-state v h
 
 -- an environment of the rules as the program holds it
 abbrev holding : Env → Held.Env
@@ -69,8 +69,9 @@ holding e =
         second = e .flow .second;
         counter = e .flow .counter;
         depth = length (e .flow .stack);
+        place = kept (e .state) .place;
         colour = e .pen .colour;
-        state = byteOf (e .state);
+        state = kept (e .state) .number;
       };
       variables = e .variables;
       stack = e .flow .stack;
@@ -80,7 +81,7 @@ is-held : (e : Env) → stateFits (e .state) ≡ true → held (holding e) ≡ e
 is-held e h =
     λ i. env (e .bounds) (e .variables) (e .pen)
     (record { counter = e .flow .counter; stack = all-of (e .flow .stack) i; first = e .flow .first; second = e .flow .second })
-    (byte-back (e .state) h i)
+    (kept-back (e .state) h i)
 
 pub answers : Answers running
 answers q e s = by-door (door q (held e) (length s)) refl

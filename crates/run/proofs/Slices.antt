@@ -2,7 +2,7 @@
 use Prim.Native.Nat.{ℕ, _+_, _≤_}
 use mathlib.Core.Path.{_≡_, sym, ap, _∙_}
 use mathlib.Core.List.{List, _∷_}
-use Rattle.player.specs.Player.{verdict}
+use Rattle.player.specs.Player.{fault}
 use Rattle.player.specs.Run.{Answer, answer}
 use Rattle.player.specs.Pane.{Apart}
 use Rattle.player.specs.Mixing.{ones, twos, Mixed}
@@ -20,12 +20,12 @@ use Rattle.run.proofs.Sides.{running, Calls, Left, answers, undisturbed
 
 -- x, with the screen t, is what calls with the budget b and then each of bs came to: the last answer, with the steps of all
 abbrev pub InSlices : List ℕ → List ℕ → Held.Env → ℕ → List ℕ → Came.Answer → List ℕ → Type 0
-InSlices w s e b bs x t = Sliced machine running w b bs e s (answer (verdict (x .number)) (x .env) t (x .steps))
+InSlices w s e b bs x t = Sliced machine running w b bs e s (answer (fault (x .number) (x .place)) (x .env) t (x .steps))
 
 module _ (w s : List ℕ) (e : Held.Env) where
   -- two calls: the second's answer with the steps of both keeps the promise of the one at once
   pub cut-in-two : (a b : ℕ) (x y : Came.Answer) (t u : List ℕ) → a + b ≤ 1000000 → Promise w s e a x t → Promise w t (x .env) b y u
-      → Promise w s e (a + b) (record { number = y .number; env = y .env; steps = x .steps + y .steps }) u
+      → Promise w s e (a + b) (record { number = y .number; place = y .place; env = y .env; steps = x .steps + y .steps }) u
   cut-in-two a b x y t u allowed p q =
       ap (after (x .steps)) q
       ∙ (ap (λ (z : Answer Env). after (z .steps) (whole w (z .screen) (z .env) b)) p ∙ sym (Rules.cut-in-two w s (held e) a b allowed))
@@ -39,7 +39,7 @@ module _ (w s : List ℕ) (e : Held.Env) where
   pub slices : (b : ℕ) (bs : List ℕ) (x : Came.Answer) (t : List ℕ) → sum b bs ≤ 1000000 → InSlices w s e b bs x t → Promise w s e (sum b bs) x t
   slices b bs x t allowed h = Player.kept machine running w b bs e s _ h ∙ Rules.slices w s (held e) b bs allowed
 
-  -- so it agrees with the one call in number, environment, screen and steps
+  -- so it agrees with the one call in number, place, environment, screen and steps
   pub at-once : (b : ℕ) (bs : List ℕ) (x y : Came.Answer) (t u : List ℕ) → sum b bs ≤ 1000000 → InSlices w s e b bs x t → Promise w s e (sum b bs) y u
       → Agree x y t u
   at-once b bs x y t u allowed h p = unique w s e (sum b bs) x y t u (slices b bs x t allowed h) p
@@ -52,7 +52,7 @@ module _ (w s : List ℕ) (e : Held.Env) where
       (Player.kept machine running w b bs e s _ p ∙ (Rules.any-cut w s (held e) b bs c cs h k same ∙ sym (Player.kept machine running w c cs e s _ q)))
 
   -- whatever slices are asked for, something comes of them
-  pub some-slices : (b : ℕ) (bs : List ℕ) → (x : Answer Held.Env) × InSlices w s e b bs (record { number = x .verdict .number; env = x .env; steps = x .steps }) (x .screen)
+  pub some-slices : (b : ℕ) (bs : List ℕ) → (x : Answer Held.Env) × InSlices w s e b bs (record { number = x .verdict .number; place = x .verdict .place; env = x .env; steps = x .steps }) (x .screen)
   some-slices b bs = Player.some-sliced machine running w answers b bs e s
 
 -- ---- two lists that take turns, each in slices of one budget, by calls that kept the promise

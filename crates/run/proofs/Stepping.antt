@@ -1,6 +1,6 @@
--- What an opcode leaves is in range and may be drawn on; and the state's byte.
+-- What an opcode leaves is in range and may be drawn on; and the state's number and place.
 use Prim.Native.Nat.{ℕ, _*_, _≤_}
-use mathlib.Core.Path.{_≡_, subst}
+use mathlib.Core.Path.{_≡_, refl, subst}
 use mathlib.Core.Bool.{Bool, true, false, cond}
 use mathlib.Core.List.{List}
 use native.Mathlib.Omega.{arith}
@@ -11,13 +11,13 @@ use Rattle.raster.specs.declared.frame.Frame.{Frame}
 use Rattle.raster.specs.Frame.{Fitting}
 use Rattle.player.specs.declared.Verdict.{Verdict}
 use Rattle.player.specs.declared.State.the-variants.{Running, Ended, Stopped}
-use Rattle.player.specs.Player.{verdict, Outcome, done, refused}
+use Rattle.player.specs.Player.{Outcome, done, refused}
 use Rattle.player.specs.Run.{answer}
 use Rattle.player.specs.Shown.{Marks, went, stayed, shown}
 use Rattle.player.proofs.Runs.{Leaves}
-use Rattle.rules.specs.Environment.{Env, stated, stateOf, frame}
+use Rattle.rules.specs.Environment.{Env, stated, carries0, stateOf, frame}
 use Rattle.rules.specs.Step.{step, afgis}
-use Rattle.rules.specs.Door.{between, sizeFits, fits}
+use Rattle.rules.specs.Door.{between, sizeFits, stateFits, fits}
 use Rattle.rules.proofs.Ranges.{one, Fits, joined, parted}
 use Rattle.rules.proofs.Kept.{step-keeps}
 use Rattle.rules.proofs.DoorLaws.{fitting}
@@ -32,13 +32,13 @@ module _ (w : List ℕ) (few : length w ≤ 65536) (e : Env) (h : fits e ≡ tru
   pub leaves-fits : (e₁ : Env) (m : Marks) → went e₁ m ≡ shown (step w e) e → fits e₁ ≡ true
   leaves-fits e₁ m q = joined e₁ (went-fits (step w e) (step-keeps w few (e .bounds) e (parted e h)) e₁ m q)
 
-  -- a refusal's number is one of 20 to 29
+  -- a refusal is one that a stopped environment may keep: 20 to 29, at a place 0 to 65,536
   stays-told : (o : Outcome Env) → Leaves (afgis w) (Fits (e .bounds)) e o → (v : Verdict) (e₁ : Env) → stayed v e₁ ≡ shown o e
-      → between 20 29 (v .number) ≡ true
+      → stateFits (Stopped v) ≡ true
   stays-told (done e' p) l v e₁ q = let z : _≡_ {A = ℕ} 0 1 = cc in absurd (omega (arith, z))
-  stays-told (refused u) l v e₁ q = let r : u ≡ v = cc in subst (λ (x : Verdict). between 20 29 (x .number) ≡ true) r (l .3)
+  stays-told (refused u) l v e₁ q = let r : u ≡ v = cc in subst (λ (x : Verdict). stateFits (Stopped x) ≡ true) r (l .3)
 
-  pub told-refusal : (v : Verdict) (e₁ : Env) → stayed v e₁ ≡ shown (step w e) e → between 20 29 (v .number) ≡ true
+  pub told-refusal : (v : Verdict) (e₁ : Env) → stayed v e₁ ≡ shown (step w e) e → stateFits (Stopped v) ≡ true
   told-refusal v e₁ q = stays-told (step w e) (step-keeps w few (e .bounds) e (parted e h)) v e₁ q
 
 -- what may be drawn on, f, is the frame of such an environment
@@ -46,26 +46,36 @@ pub may-draw : {f : Frame} (e : Env) (s : List ℕ) → f ≡ frame e → sizeFi
     → Fitting f s
 may-draw e s is size h area = rw is (fitting e s size h area)
 
--- ---- the state's byte
-pub running : (n : ℕ) → n ≡ 0 → stateOf n ≡ Running
-unfolding stateOf
-running n h = rw (eq-eqb n 0 h)
+-- ---- the state's number and place: in range, the number alone tells whether it runs
+least : (v : Verdict) → stateFits (Stopped v) ≡ true → 20 ≤ v .number
+least v h = leb-true 20 (v .number) (one _ _ (one (between 20 29 (v .number)) _ h))
 
-pub not-running : (n : ℕ) → (n ≡ 0 → ⊥) → stateOf n ≡ Running → ⊥
+pub running : (v : Verdict) → stateFits (stateOf v) ≡ true → v .number ≡ 0 → stateOf v ≡ Running
 unfolding stateOf
-not-running n h q = at-one (eqb n 1) (rw (ne-eqb n 0 h) at q)
+running v fits z =
+    let is-0 = eq-eqb (v .number) 0 z in
+    let not-1 = ne-eqb (v .number) 1 (λ o. omega (arith, o, z)) in
+    rw (is-0, not-1) (at-place (eqb (v .place .0) 0) (rw (is-0, not-1) at fits))
   where
-    at-one : (t : Bool) → cond t Ended (Stopped (verdict n)) ≡ Running → ⊥
+    at-place : (t : Bool) → stateFits (cond t Running (Stopped v)) ≡ true → cond t Running (Stopped v) ≡ Running
+    at-place true f = refl
+    at-place false f = absurd (omega (arith, z, least v f))
+
+pub not-running : (v : Verdict) → (v .number ≡ 0 → ⊥) → stateOf v ≡ Running → ⊥
+unfolding stateOf
+not-running v h q = at-one (carries0 v 1) (rw (ne-eqb (v .number) 0 h) at q)
+  where
+    at-one : (t : Bool) → cond t Ended (Stopped v) ≡ Running → ⊥
     at-one true p = let z : _≡_ {A = ℕ} 0 1 = cc in omega (arith, z)
     at-one false p = let z : _≡_ {A = ℕ} 0 1 = cc in omega (arith, z)
 
-pub stopped-state : (n : ℕ) → between 20 29 n ≡ true → stateOf n ≡ Stopped (verdict n)
+pub stopped-state : (v : Verdict) → stateFits (Stopped v) ≡ true → stateOf v ≡ Stopped v
 unfolding stateOf
-stopped-state n h =
-    let k = leb-true 20 n (one _ _ h) in
-    rw (ne-eqb n 0 (λ z. omega (arith, z, k)), ne-eqb n 1 (λ z. omega (arith, z, k)))
+stopped-state v h =
+    let k = least v h in
+    rw (ne-eqb (v .number) 0 (λ z. omega (arith, z, k)), ne-eqb (v .number) 1 (λ z. omega (arith, z, k)))
 
--- stopped with the refusal's number, and that is the answer
-pub stopped-left : (e : Env) {e' : Env} (q : ℕ) → e' ≡ stated (stateOf q) e → between 20 29 q ≡ true → (s : List ℕ) (k : ℕ)
-    → left e' s k ≡ answer (verdict q) (stated (Stopped (verdict q)) e) s k
-stopped-left e q p h s k = rw (p, stopped-state q h)
+-- stopped with the refusal, and that is the answer
+pub stopped-left : (e : Env) {e' : Env} (v : Verdict) → e' ≡ stated (stateOf v) e → stateFits (Stopped v) ≡ true → (s : List ℕ) (k : ℕ)
+    → left e' s k ≡ answer v (stated (Stopped v) e) s k
+stopped-left e v p h s k = rw (p, stopped-state v h)

@@ -6,9 +6,8 @@ use mathlib.Core.List.{List}
 use lib.ListN.{length}
 use lib.IntN.{ℤ}
 use Rattle.raster.specs.declared.frame.Bounds.{Bounds}
-use Rattle.player.specs.Player.{verdict}
 use Rattle.player.specs.Run.{Answer, answer}
-use Rattle.player.specs.Shown.{numberOf}
+use Rattle.player.specs.Shown.{verdictOf}
 use Rattle.rules.specs.Environment.{Env}
 use Rattle.rules.specs.Door.{sizeFits, fits}
 use Rattle.act.specs.Lent.{look, CellsFull, PointsFull}
@@ -25,4 +24,4 @@ pub record Ready (w : List ℕ) (b : Bounds) (cs : List ℕ) (ps : List ℤ) (vs
 
 -- what a run of opcodes left, as an answer
 abbrev pub left : Env → List ℕ → ℕ → Answer Env
-left e s k = answer (verdict (numberOf (e .state))) e s k
+left e s k = answer (verdictOf (e .state)) e s k

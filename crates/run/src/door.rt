@@ -35,7 +35,7 @@ fn state_fits(s: State) -> bool
     match s {
         State::Running => true,
         State::Ended => true,
-        State::Stopped(v) => both(20 <= v.number, v.number <= 29),
+        State::Stopped(v) => both(both(20 <= v.number, v.number <= 29), index_fits(v.place)),
     }
 }
 
@@ -92,7 +92,7 @@ fn fits(b: Bounds, r: Registers, stack: &Stack) -> bool
     requires { ⌜ length (now stack) ≡ 16 ⌝ }
     ensures { λ f. ⌜ ((vs : List ℕ) → f ≡ Door.fits (view b r vs (indexed (now (stack .entry))))) ⌝ }
 {
-    let state = state_fits(state_of(r.state));
+    let state = state_fits(state_of(r));
     both(
         pane_fits(b),
         both(pen_fits(r), both(flow_fits(r, stack), state)),

@@ -6,22 +6,25 @@ use act::registers::gathered;
 use act::registers::points_of;
 use act::stack::indices_of;
 use act::stack::numbers_of;
+use numbers::place::WordIndex;
 use player::State;
+use player::Verdict;
+use player::carrying_0;
 use rules::answer::Answer;
 use rules::environment::Env;
 use rules::environment::state_of;
 ghost use mathlib.Core.Path.{_≡_};
-ghost use Rattle.player.specs.Shown.{numberOf};
+ghost use Rattle.player.specs.Shown.{verdictOf};
 ghost use Rattle.rules.specs.Door.{Promise};
 
 // What the state that is left answers; of one that still runs, that the budget is used up.
-fn number_of(s: State) -> u8
-    ensures { λ n. ⌜ n ≡ numberOf s ⌝ }
+fn verdict_of(s: State) -> Verdict
+    ensures { λ v. ⌜ v ≡ verdictOf s ⌝ }
 {
     match s {
-        State::Running => 1,
-        State::Ended => 0,
-        State::Stopped(v) => v.number,
+        State::Running => carrying_0(1),
+        State::Ended => carrying_0(0),
+        State::Stopped(v) => v,
     }
 }
 
@@ -37,6 +40,7 @@ pub fn run(list: &[u16], screen: &mut [u8], env: Env, budget: u32) -> Answer
     if d != 0 {
         return Answer {
             number: d,
+            place: WordIndex(0),
             env,
             steps: 0,
         };
@@ -54,8 +58,11 @@ pub fn run(list: &[u16], screen: &mut [u8], env: Env, budget: u32) -> Answer
         budget,
     );
     let registers = gathered(&cells, &points);
+    let v = verdict_of(state_of(registers));
+    let place = v.place;
     Answer {
-        number: number_of(state_of(registers.state)),
+        number: v.number,
+        place,
         env: Env {
             bounds: b,
             registers,

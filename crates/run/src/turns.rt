@@ -38,12 +38,12 @@ pub fn turns(
             return steps;
         }
         let mut brush: Brush = [0; 6];
-        let q = step(words, cells, points, vars, stack, &mut brush);
-        if 1 < q {
-            set_state(cells, q);
+        let v = step(words, cells, points, vars, stack, &mut brush);
+        if 1 < v.number {
+            set_state(cells, v);
             return steps;
         }
-        if q == 1 {
+        if v.number == 1 {
             paint(screen, frame(b, &*cells, &*points), &brush);
         }
         steps += 1;

@@ -3,7 +3,7 @@ use mathlib.Core.Path.{_≡_, refl, ap, _∙_}
 use borrow.Author.Needs.{needs}
 use lib.ListN.{length}
 use Rattle.player.specs.Run.{runs}
-use Rattle.player.specs.Shown.{numberOf}
+use Rattle.player.specs.Shown.{verdictOf}
 use Rattle.player.proofs.Doors.{refused-whole, run-whole}
 use Rattle.rules.specs.Environment.{Env, held}
 use Rattle.rules.specs.Door.{fits, door, machine}
@@ -52,13 +52,14 @@ turns-requires c κs =
 
 returns-2 : tie.Need-returns-2
 returns-2 c =
-    let t = c .before .before .before .before .before .before .before .before in
-    let a = c .before .before .before .before .before .before .before .before .before .before .before .before .before .before .before .before .before .before .before .before .before .before .before .before .before .before .args in
+    let d = c .before in
+    let t = d .before .before .before .before .before .before .before .before in
+    let a = d .before .before .before .before .before .before .before .before .before .before .before .before .before .before .before .before .before .before .before .before .before .before .before .before .before .before .args in
     let z = t .turns .last .1 .1 in
-    answers _ _ (z .0) (z .1 .0) _ (z .1 .1 .1 .0) _ _ _ (c .indices-of .ensures) (c .before .before .before .gathered .ensures) (c .before .number-of .ensures ∙ ap numberOf (c .before .before .state-of .ensures))
+    answers _ _ (z .0) (z .1 .0) _ (z .1 .1 .1 .0) _ _ _ (c .indices-of .ensures) (d .before .before .before .gathered .ensures) (d .before .verdict-of .ensures ∙ ap verdictOf (d .before .before .state-of .ensures))
     (t .turns .ensures
     ∙ (ap (λ (x : Env). runs (afgis (a .list .now)) (a .budget) x (a .screen .now) 0) (same (t .before))
-    ∙ run-whole machine (record { list = a .list .now; budget = a .budget }) (held (a .env)) (a .screen .now) _ (said (c .before .before .before .before .before .before .before .before .before .before .before .before .before .before .before .before .before)) (c .before .before .before .before .before .before .before .before .before .before .before .before .before .before .before .before .if1 .left)))
+    ∙ run-whole machine (record { list = a .list .now; budget = a .budget }) (held (a .env)) (a .screen .now) _ (said (d .before .before .before .before .before .before .before .before .before .before .before .before .before .before .before .before .before)) (d .before .before .before .before .before .before .before .before .before .before .before .before .before .before .before .before .if1 .left)))
 
 pub run-spec : {M : Type 1} → statement M
 run-spec =

@@ -14,6 +14,7 @@ use Rattle.player.specs.Shown.{marks, brushed}
 use Rattle.player.proofs.Turning.{painting, not-carried-out, Turned, turned-long, turned-painting, turned-quiet, rest, go-on, stop, used-up}
 use Rattle.rules.specs.Environment.{frame}
 use Rattle.rules.specs.Step.{afgis}
+use Rattle.rules.proofs.Ranges.{parted}
 use Rattle.act.specs.Lent.{look}
 use Rattle.run.specs.Turns.{Ready}
 use Rattle.run.proofs.Stepping.{running, not-running, leaves-fits, told-refusal, may-draw, stopped-left}
@@ -58,7 +59,7 @@ step-requires c κs =
 
 returns-2 : tie.Need-returns-2 Inv-loop μ-loop
 returns-2 c =
-    let d = c .before .before .before in
+    let d = c .before .before .before .before in
     let f = d .before .before .before .before .before .before in
     let t = f .before .before .before in
     let i = t .before .loop in
@@ -68,32 +69,32 @@ returns-2 c =
     let shows = not-carried-out frame after (z .1 .1 .1 .1 .0) (d .step .result) (c .before .before .if2 .taken) ∙ d .step .ensures .tells b in
     let range = told-refusal _ (i .inv .ready .few) (look b (i .cells) (i .points) (i .vars) (i .stack)) (i .inv .ready .ranges) _ _ shows in
     stopped-left after _ (c .set-state .ensures .shows b (z .1 .0) (z .1 .1 .0) (z .1 .1 .1 .0)) range _ (i .steps)
-    ∙ stop _ _ (i .steps) _ (i .screen) _ (i .inv .same) _ _ (t .loop-test .taken) (running _ (sym (f .before .state .ensures) ∙ f .if1 .left)) shows
+    ∙ stop _ _ (i .steps) _ (i .screen) _ (i .inv .same) _ _ (t .loop-test .taken) (running _ (parted (look b (i .cells) (i .points) (i .vars) (i .stack)) (i .inv .ready .ranges) .3) (sym (f .before .state .ensures) ∙ f .if1 .left)) shows
 
 paint-requires : tie.Need-paint-requires Inv-loop μ-loop
 paint-requires c κs =
     let g = c .before in
     let y = g .before .before .before .before in
-    let d = y .before .before in
+    let d = y .before .before .before .before in
     let t = d .before .before .before .before .before .before .before .before .before in
     let i = t .before .loop in
     let b = t .before .before .before .before .args .b in
     let z = d .step .last .1 in
     let p = z .1 .1 .1 .1 .0 in
     let after = look b (z .0) (z .1 .0) (z .1 .1 .0) (z .1 .1 .1 .0) in
-    let shows = painting frame after p (y .if3 .taken) ∙ d .step .ensures .tells b in
+    let shows = painting frame after p (d .step .result) (y .if3 .taken) ∙ d .step .ensures .tells b in
     let ranges = leaves-fits _ (i .inv .ready .few) (look b (i .cells) (i .points) (i .vars) (i .stack)) (i .inv .ready .ranges) _ (marks (brushed (frame after) p)) shows in
     (may-draw after (i .screen) (g .frame .ensures (z .1 .1 .0) (z .1 .1 .1 .0)) (i .inv .ready .size) ranges (i .inv .ready .area), d .step .ensures .brush .1)
 
 turned : (c : tie.Joined3 Inv-loop μ-loop) →
-    let d = c .before .before in
+    let d = c .before .before .before .before in
     let t = d .before .before .before .before .before .before .before .before .before in
     let i = t .before .loop in
     let g = t .before .before .before .before .args in
     let z = d .step .last .1 in
     Turned (afgis (g .words .now)) (look (g .b) (i .cells) (i .points) (i .vars) (i .stack)) (i .screen) (look (g .b) (z .0) (z .1 .0) (z .1 .1 .0) (z .1 .1 .1 .0)) (c .if3 .screen)
 turned c =
-    let d = c .before .before in
+    let d = c .before .before .before .before in
     let t = d .before .before .before .before .before .before .before .before .before in
     let i = t .before .loop in
     let g = t .before .before .before .before .args in
@@ -105,17 +106,17 @@ turned c =
     (λ w.
     turned-painting (afgis (g .words .now)) frame before (i .screen) (d .step .result) after (z .1 .1 .1 .1 .0) told (w .0 .taken) (w .4 .ensures (z .1 .1 .0) (z .1 .1 .1 .0))
     (w .9 ∙ w .6 .ensures))
-    (λ w. turned-quiet (afgis (g .words .now)) frame before (i .screen) (d .step .result) after (z .1 .1 .1 .1 .0) told (c .before .if2 .left) (w .0 .left) (w .1))
+    (λ w. turned-quiet (afgis (g .words .now)) frame before (i .screen) (d .step .result) after (z .1 .1 .1 .1 .0) told (c .before .before .if2 .left) (w .0 .left) (w .1))
     (c .if3 .came)
 
 add-steps : tie.Need-add-steps Inv-loop μ-loop
 add-steps c =
-    let t = c .before .before .before .before .before .before .before .before .before .before .before in
+    let t = c .before .before .before .before .before .before .before .before .before .before .before .before .before in
     omega (arith, t .loop-test .taken, t .before .before .before .before .fits .budget)
 
 loop-again : tie.Need-loop-again Inv-loop μ-loop
 loop-again c =
-    let d = c .before .before in
+    let d = c .before .before .before .before in
     let f = d .before .before .before .before .before .before in
     let t = f .before .before .before in
     let i = t .before .loop in
@@ -133,7 +134,7 @@ loop-again c =
       };
       in-budget = omega arith;
       as-long = turned-long _ x ∙ i .inv .as-long;
-      same = go-on _ _ (i .steps) _ (i .screen) _ (i .inv .same) _ _ x (t .loop-test .taken) (running _ (sym (f .before .state .ensures) ∙ f .if1 .left));
+      same = go-on _ _ (i .steps) _ (i .screen) _ (i .inv .same) _ _ x (t .loop-test .taken) (running _ (parted (look b (i .cells) (i .points) (i .vars) (i .stack)) (i .inv .ready .ranges) .3) (sym (f .before .state .ensures) ∙ f .if1 .left));
     }
 
 pub turns-spec : {M : Type 1} → statement M
@@ -147,8 +148,8 @@ turns-spec =
     (λ c. c .before .before .before .before .loop .inv .as-long)
     returns
     step-requires
-    (λ c κs. c .before .before .step .ensures .cells)
-    (λ c. c .before .before .before .before .before .before .before .before .before .before .before .before .before .loop .inv .as-long)
+    (λ c κs. c .before .before .before .step .ensures .cells)
+    (λ c. c .before .before .before .before .before .before .before .before .before .before .before .before .before .before .loop .inv .as-long)
     returns-2
     (λ c κs. search needs)
     paint-requires
