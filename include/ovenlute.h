@@ -11,7 +11,7 @@ extern "C" {
 #endif
 
 /* Raised with every change of a struct below. An environment that was kept from another version is to be made anew. */
-#define OVENLUTE_VERSION 1
+#define OVENLUTE_VERSION 2
 
 /* The limits. */
 #define OVENLUTE_MOST_WORDS 65536     /* of a list */
@@ -22,7 +22,7 @@ extern "C" {
 
 /* The numbers that come back; each comment is what ovenlute_text says of it. 10 to 14 are of a call: nothing is done, and
    environment and screen are as they were. 20 to 29 are of an opcode: it was not carried out and changed nothing, those before
-   it stand, and the environment is stopped for good: it answers this number again. */
+   it stand, and the environment is stopped for good: it answers this number again, with its place. */
 enum ovenlute_number {
     OVENLUTE_ENDED = 0,          /* the list has ended */
     OVENLUTE_BUDGET = 1,         /* the budget is used up, the list still runs */
@@ -74,6 +74,7 @@ struct ovenlute_registers {
     int32_t first, second;  /* the two values last compared */
     uint32_t counter;       /* program counter: a word index, 0 to 65,536 */
     uint32_t depth;         /* returns stacked, 0 to 16 */
+    uint32_t place;         /* stopped: the place of the refusal, 0 to 65,536; else 0 */
     uint8_t colour;         /* foreground colour */
     uint8_t state;          /* enum ovenlute_state, or 20 to 29 */
 };
@@ -92,6 +93,7 @@ struct ovenlute_made {
 
 struct ovenlute_done {
     uint8_t number;
+    uint32_t place;         /* 20 to 29: the index of the word at fault; else 0 */
     uint32_t steps;         /* opcodes carried out in this call */
 };
 
@@ -114,7 +116,9 @@ struct ovenlute_made ovenlute_fresh(uint32_t width, uint32_t height, struct oven
      are those of one call, and the steps add up. A budget counts opcodes and not time: an opcode that clears a screen of
      2,048 x 2,048 sets four million bytes, so a host that has other things to do gives small budgets.
    - 10 to 14: nothing is done, steps is 0.
-   - 20 to 29: the list is stopped; ovenlute_text has the words, env->registers.counter the index of the opcode at fault.
+   - 20 to 29: the list is stopped; ovenlute_text has the words, place the index of the word at fault: with 23 the first operand
+     that names a variable above 63 or one with followers above 63, else the opcode word; with 20 the opcode was due there.
+     env->registers.counter is the index of the opcode in any case. All other numbers have place 0.
    List, screen and environment may not overlap. Only bytes inside the pane are written; the environment is written in any case,
    also where the call is refused, then with what it was. With length 0 a list or a screen may be NULL; env may not. */
 struct ovenlute_done ovenlute_run(const uint16_t *list, size_t words, uint8_t *screen, size_t bytes,

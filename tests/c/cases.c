@@ -1,7 +1,7 @@
 /*
- * The fourteen cases of docs/RULES.md with their variants, request T-02's, a line that is mostly outside, the numbers 10 to 14,
- * and what the header says of NULL and of its limits, through the C face of the box. Each answer is checked whole: number,
- * steps, every field of the environment, every byte.
+ * The fourteen cases of docs/RULES.md with their variants, request T-02's, a line that is mostly outside, places of refusals, the
+ * numbers 10 to 14, and what the header says of NULL and of its limits, through the C face of the box. Each answer is checked
+ * whole: number, place, steps, every field of the environment, every byte.
  */
 
 #include "libc.h"
@@ -10,7 +10,9 @@
 enum { WIDTH = 5, HEIGHT = 3, BYTES = WIDTH * HEIGHT, MOST_WORDS = 24, MOST_CHANGES = 6 };
 
 /* The fields that a case leaves other than fresh. */
-enum change { NOTHING, VARIABLE, POSITION_X, POSITION_Y, COUNTER, DEPTH, STACKED, MODE, COLOUR, FIRST, SECOND, STATE };
+enum change {
+    NOTHING, VARIABLE, POSITION_X, POSITION_Y, COUNTER, DEPTH, STACKED, PLACE, MODE, COLOUR, FIRST, SECOND, STATE
+};
 
 struct changed {
     enum change what;
@@ -42,7 +44,7 @@ static const struct test tests[] = {
     { "3", 7, { 0x0066, 0xFFFF, 0x7FFF, 0x0000, 0x005D, 0x0000, 0x0001 }, 100, WHOLE, 0, 3,
       { { VARIABLE, 0, INT32_MIN }, { COUNTER, 0, 7 }, { STATE, 0, 1 } }, BLANK },
     { "4", 7, { 0x0066, 0x0000, 0x0001, 0x0005, 0x0083, 0x0004, 0x0001 }, 100, WHOLE, 25, 1,
-      { { VARIABLE, 5, 65536 }, { COUNTER, 0, 4 }, { STATE, 0, 25 } }, BLANK },
+      { { VARIABLE, 5, 65536 }, { COUNTER, 0, 4 }, { PLACE, 0, 4 }, { STATE, 0, 25 } }, BLANK },
     { "4, budget 1", 7, { 0x0066, 0x0000, 0x0001, 0x0005, 0x0083, 0x0004, 0x0001 }, 1, WHOLE, 1, 1,
       { { VARIABLE, 5, 65536 }, { COUNTER, 0, 4 } }, BLANK },
     { "5", 10, { 0x0065, 0xFFF9, 0x0000, 0x0065, 0x0002, 0x0001, 0x0045, 0x0001, 0x0000, 0x0001 }, 100, WHOLE, 0, 4,
@@ -53,8 +55,13 @@ static const struct test tests[] = {
       1, 2, { { VARIABLE, 0, -7 }, { VARIABLE, 1, 2 }, { COUNTER, 0, 6 } }, BLANK },
     { "6", 3, { 0x0045, 0x0001, 0x0000 }, 100, WHOLE, 26, 0, { { STATE, 0, 26 } }, BLANK },
     { "6 with 0081", 3, { 0x0081, 0x0001, 0x0000 }, 100, WHOLE, 26, 0, { { STATE, 0, 26 } }, BLANK },
-    { "7", 3, { 0x0003, 0x0040, 0x0000 }, 100, WHOLE, 23, 0, { { STATE, 0, 23 } }, BLANK },
-    { "7 with 003F", 3, { 0x0003, 0x003F, 0x0000 }, 100, WHOLE, 20, 1, { { COUNTER, 0, 3 }, { STATE, 0, 20 } }, BLANK },
+    { "7", 3, { 0x0003, 0x0040, 0x0000 }, 100, WHOLE, 23, 0, { { PLACE, 0, 1 }, { STATE, 0, 23 } }, BLANK },
+    { "7 with 003F", 3, { 0x0003, 0x003F, 0x0000 }, 100, WHOLE, 20, 1,
+      { { COUNTER, 0, 3 }, { PLACE, 0, 3 }, { STATE, 0, 20 } }, BLANK },
+    { "7 with its destination above 63", 4, { 0x0000, 0x0003, 0x0000, 0x0040 }, 100, WHOLE, 23, 1,
+      { { COUNTER, 0, 1 }, { PLACE, 0, 3 }, { STATE, 0, 23 } }, BLANK },
+    { "followers above 63", 3, { 0x0000, 0x0075, 0x003C }, 100, WHOLE, 23, 1,
+      { { COUNTER, 0, 1 }, { PLACE, 0, 2 }, { STATE, 0, 23 } }, BLANK },
     { "8", 2, { 0x0066, 0x0000 }, 100, WHOLE, 22, 0, { { STATE, 0, 22 } }, BLANK },
     { "9", 7, { 0x0074, 0x0000, 0x0000, 0x0000, 0x0004, 0x0002, 0x0001 }, 100, WHOLE, 0, 2,
       { { COUNTER, 0, 7 }, { STATE, 0, 1 } }, "#...." ".##.." "...##" },
@@ -79,10 +86,10 @@ static const struct test tests[] = {
       { { DEPTH, 0, 16 }, { STACKED, -1, 2 }, { STATE, 0, 28 } }, BLANK },
     { "12", 3, { 0x000E, 0x0008, 0x0000 }, 100, WHOLE, 27, 0, { { STATE, 0, 27 } }, BLANK },
     { "12 with 0010", 3, { 0x000E, 0x0010, 0x0000 }, 100, WHOLE, 21, 1,
-      { { COUNTER, 0, 1 }, { DEPTH, 0, 1 }, { STACKED, 0, 3 }, { STATE, 0, 21 } }, BLANK },
+      { { COUNTER, 0, 1 }, { DEPTH, 0, 1 }, { STACKED, 0, 3 }, { PLACE, 0, 1 }, { STATE, 0, 21 } }, BLANK },
     { "13", 2, { 0x0016, 0x0003 }, 100, WHOLE, 24, 0, { { STATE, 0, 24 } }, BLANK },
     { "13 with 0002", 2, { 0x0016, 0x0002 }, 100, WHOLE, 20, 1,
-      { { MODE, 0, 2 }, { COUNTER, 0, 2 }, { STATE, 0, 20 } }, BLANK },
+      { { MODE, 0, 2 }, { COUNTER, 0, 2 }, { PLACE, 0, 2 }, { STATE, 0, 20 } }, BLANK },
     { "14", 6, { 0x0150, 0xFFFF, 0x0000, 0x0007, 0x0000, 0x0001 }, 100, WHOLE, 0, 2,
       { { COUNTER, 0, 6 }, { STATE, 0, 1 } }, BLANK },
     { "14 with 0000 and colour 010F", 6, { 0x0150, 0x0000, 0x0000, 0x010F, 0x0000, 0x0001 }, 100, WHOLE, 0, 2,
@@ -130,47 +137,52 @@ static void set_stacked(struct ovenlute_env *env, int which, uint32_t value)
             env->stack[i] = value;
 }
 
-static void apply(struct ovenlute_env *env, const struct changed *changed)
+static void change_register(struct ovenlute_registers *registers, enum change what, int32_t value)
 {
-    struct ovenlute_registers *registers = &env->registers;
-
-    switch (changed->what) {
-    case NOTHING:
-        break;
-    case VARIABLE:
-        env->variables[changed->which] = changed->value;
-        break;
+    switch (what) {
     case POSITION_X:
-        registers->position.x = changed->value;
+        registers->position.x = value;
         break;
     case POSITION_Y:
-        registers->position.y = changed->value;
+        registers->position.y = value;
         break;
     case COUNTER:
-        registers->counter = (uint32_t)changed->value;
+        registers->counter = (uint32_t)value;
         break;
     case DEPTH:
-        registers->depth = (uint32_t)changed->value;
+        registers->depth = (uint32_t)value;
         break;
-    case STACKED:
-        set_stacked(env, changed->which, (uint32_t)changed->value);
+    case PLACE:
+        registers->place = (uint32_t)value;
         break;
     case MODE:
-        registers->mode = (uint32_t)changed->value;
+        registers->mode = (uint32_t)value;
         break;
     case COLOUR:
-        registers->colour = (uint8_t)changed->value;
+        registers->colour = (uint8_t)value;
         break;
     case FIRST:
-        registers->first = changed->value;
+        registers->first = value;
         break;
     case SECOND:
-        registers->second = changed->value;
+        registers->second = value;
         break;
     case STATE:
-        registers->state = (uint8_t)changed->value;
+        registers->state = (uint8_t)value;
+        break;
+    default:
         break;
     }
+}
+
+static void apply(struct ovenlute_env *env, const struct changed *changed)
+{
+    if (changed->what == VARIABLE)
+        env->variables[changed->which] = changed->value;
+    else if (changed->what == STACKED)
+        set_stacked(env, changed->which, (uint32_t)changed->value);
+    else
+        change_register(&env->registers, changed->what, changed->value);
 }
 
 static int same_bounds(const struct ovenlute_bounds *a, const struct ovenlute_bounds *b)
@@ -186,7 +198,7 @@ static int same_registers(const struct ovenlute_registers *a, const struct ovenl
         && a->window.x0 == b->window.x0 && a->window.y0 == b->window.y0
         && a->window.x1 == b->window.x1 && a->window.y1 == b->window.y1
         && a->mode == b->mode && a->first == b->first && a->second == b->second
-        && a->counter == b->counter && a->depth == b->depth
+        && a->counter == b->counter && a->depth == b->depth && a->place == b->place
         && a->colour == b->colour && a->state == b->state;
 }
 
@@ -236,6 +248,8 @@ static const char *wrong_answer(const struct test *test, struct ovenlute_done do
     wanted_env(test, &wanted);
     if (done.number != test->number)
         return "another number";
+    if (done.place != wanted.registers.place)
+        return "another place";
     if (done.steps != steps)
         return "other steps";
     if (!same_env(env, &wanted))
@@ -288,7 +302,7 @@ static void check_fresh_calls(void)
     check_fresh("fresh, size before pane", WIDTH, 0, empty, OVENLUTE_BAD_SIZE);
 }
 
-/* Refused at the door: number, no steps, and nothing changed. */
+/* Refused at the door, or stopped before: number, no steps, and nothing changed; a place only where it was stopped. */
 static void check_door(const char *name, const struct ovenlute_env *env, size_t words, size_t bytes, uint32_t budget,
                        uint8_t number)
 {
@@ -299,6 +313,8 @@ static void check_door(const char *name, const struct ovenlute_env *env, size_t 
 
     if (done.number != number)
         check(name, "another number");
+    else if (done.place != (number >= OVENLUTE_PAST_END ? env->registers.place : 0))
+        check(name, "another place");
     else if (done.steps != 0)
         check(name, "other steps");
     else if (!same_env(&after, env))
@@ -309,26 +325,31 @@ static void check_door(const char *name, const struct ovenlute_env *env, size_t 
 
 static void check_door_calls(void)
 {
-    struct ovenlute_env good, bad_size, bad_mode, stopped;
+    struct ovenlute_env good, bad_size, bad_mode, stopped, bad_place;
     struct ovenlute_env zeros = ovenlute_fresh(0, 0, whole_pane).env;
 
     fresh_env(&good, whole_pane);
-    bad_size = bad_mode = stopped = good;
+    bad_size = bad_mode = stopped = bad_place = good;
     bad_size.bounds.width = 2049;
     bad_mode.registers.mode = 3;
     stopped.registers.state = 25;
+    stopped.registers.place = OVENLUTE_MOST_WORDS;
+    bad_place.registers.place = 1;
     check_door("10, zeros", &zeros, 1, 0, 1, OVENLUTE_BAD_SIZE);
     check_door("10 before 11", &bad_size, 1, BYTES, 1, OVENLUTE_BAD_SIZE);
     check_door("11, one short", &good, 1, BYTES - 1, 1, OVENLUTE_BAD_SCREEN);
     check_door("11, one more", &good, 1, BYTES + 1, 1, OVENLUTE_BAD_SCREEN);
     check_door("11 before 12", &bad_mode, 1, BYTES - 1, 1, OVENLUTE_BAD_SCREEN);
     check_door("12", &bad_mode, 1, BYTES, 1, OVENLUTE_BAD_FIELD);
+    check_door("12, a place, but running", &bad_place, 1, BYTES, 1, OVENLUTE_BAD_FIELD);
     check_door("12 before 13", &bad_mode, 65537, BYTES, 1, OVENLUTE_BAD_FIELD);
     check_door("13", &good, 65537, BYTES, 1, OVENLUTE_LONG_LIST);
     check_door("13 before 14", &good, 65537, BYTES, 1000001, OVENLUTE_LONG_LIST);
     check_door("14", &good, 1, BYTES, 1000001, OVENLUTE_LARGE_BUDGET);
     check_door("14 before the state", &stopped, 1, BYTES, 1000001, OVENLUTE_LARGE_BUDGET);
     check_door("the state before the budget", &stopped, 1, BYTES, 0, OVENLUTE_OUT_OF_RANGE);
+    stopped.registers.place++;
+    check_door("12, a place past the longest list", &stopped, 1, BYTES, 1, OVENLUTE_BAD_FIELD);
 }
 
 /* Nothing is read or written through a pointer with length 0. */

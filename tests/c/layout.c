@@ -23,7 +23,7 @@ _Static_assert(offsetof(struct ovenlute_window, y0) == 4, "window.y0");
 _Static_assert(offsetof(struct ovenlute_window, x1) == 8, "window.x1");
 _Static_assert(offsetof(struct ovenlute_window, y1) == 12, "window.y1");
 
-_Static_assert(sizeof(struct ovenlute_registers) == 48, "registers");
+_Static_assert(sizeof(struct ovenlute_registers) == 52, "registers");
 _Static_assert(offsetof(struct ovenlute_registers, position) == 0, "registers.position");
 _Static_assert(offsetof(struct ovenlute_registers, window) == 8, "registers.window");
 _Static_assert(offsetof(struct ovenlute_registers, mode) == 24, "registers.mode");
@@ -31,25 +31,27 @@ _Static_assert(offsetof(struct ovenlute_registers, first) == 28, "registers.firs
 _Static_assert(offsetof(struct ovenlute_registers, second) == 32, "registers.second");
 _Static_assert(offsetof(struct ovenlute_registers, counter) == 36, "registers.counter");
 _Static_assert(offsetof(struct ovenlute_registers, depth) == 40, "registers.depth");
-_Static_assert(offsetof(struct ovenlute_registers, colour) == 44, "registers.colour");
-_Static_assert(offsetof(struct ovenlute_registers, state) == 45, "registers.state");
+_Static_assert(offsetof(struct ovenlute_registers, place) == 44, "registers.place");
+_Static_assert(offsetof(struct ovenlute_registers, colour) == 48, "registers.colour");
+_Static_assert(offsetof(struct ovenlute_registers, state) == 49, "registers.state");
 
-_Static_assert(sizeof(struct ovenlute_env) == 392, "env");
+_Static_assert(sizeof(struct ovenlute_env) == 396, "env");
 _Static_assert(offsetof(struct ovenlute_env, bounds) == 0, "env.bounds");
 _Static_assert(offsetof(struct ovenlute_env, registers) == 24, "env.registers");
-_Static_assert(offsetof(struct ovenlute_env, variables) == 72, "env.variables");
-_Static_assert(offsetof(struct ovenlute_env, stack) == 328, "env.stack");
+_Static_assert(offsetof(struct ovenlute_env, variables) == 76, "env.variables");
+_Static_assert(offsetof(struct ovenlute_env, stack) == 332, "env.stack");
 
-_Static_assert(sizeof(struct ovenlute_made) == 396, "made");
+_Static_assert(sizeof(struct ovenlute_made) == 400, "made");
 _Static_assert(offsetof(struct ovenlute_made, number) == 0, "made.number");
 _Static_assert(offsetof(struct ovenlute_made, env) == 4, "made.env");
 
-_Static_assert(sizeof(struct ovenlute_done) == 8, "done");
+_Static_assert(sizeof(struct ovenlute_done) == 12, "done");
 _Static_assert(offsetof(struct ovenlute_done, number) == 0, "done.number");
-_Static_assert(offsetof(struct ovenlute_done, steps) == 4, "done.steps");
+_Static_assert(offsetof(struct ovenlute_done, place) == 4, "done.place");
+_Static_assert(offsetof(struct ovenlute_done, steps) == 8, "done.steps");
 
 _Static_assert(sizeof(struct ovenlute_words) == 96, "words");
 _Static_assert(offsetof(struct ovenlute_words, length) == 0, "words.length");
 _Static_assert(offsetof(struct ovenlute_words, text) == 1, "words.text");
 
-_Static_assert(OVENLUTE_VERSION == 1, "the version that these sizes and offsets are of");
+_Static_assert(OVENLUTE_VERSION == 2, "the version that these sizes and offsets are of");

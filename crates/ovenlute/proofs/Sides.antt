@@ -19,7 +19,7 @@ use Rattle.ovenlute.specs.declared.Done as Done
 
 -- what `ovenlute_run` promises: d comes back, and the environment that was lent as e is left as e'
 abbrev pub Kept : List ℕ → List ℕ → Held.Env → ℕ → Done.Done → Held.Env → List ℕ → Type 0
-Kept w s e budget d e' t = Promise w s e budget (record { number = d .number; env = e'; steps = d .steps }) t
+Kept w s e budget d e' t = Promise w s e budget (record { number = d .number; place = d .place; env = e'; steps = d .steps }) t
 
 -- a program for the rules' machine: what is handed on from call to call is the environment as it was left
 abbrev pub lending : Promised (callable machine)
@@ -27,7 +27,7 @@ lending =
     record {
       Held = Held.Env;
       view = held;
-      Promise = λ q e s r. Kept (q .list) s e (q .budget) (record { number = r .got .told .verdict .number; steps = r .got .told .steps }) (r .got .env) (r .screen);
+      Promise = λ q e s r. Kept (q .list) s e (q .budget) (record { number = r .got .told .verdict .number; place = r .got .told .verdict .place; steps = r .got .told .steps }) (r .got .env) (r .screen);
       true-to = λ q e s r p. ap reply p;
     }
 

@@ -39,6 +39,7 @@ fn blank(bounds: Bounds, colour: u8, x: u32, y: u32) -> Env
             second: 0,
             counter: WordIndex(0),
             depth: 0,
+            place: WordIndex(0),
             colour,
             state: 0,
         },
@@ -102,6 +103,7 @@ pub fn run(list: &[u16], screen: &mut [u8], env: Env, budget: u32) -> Answer
 #[repr(C)]
 pub struct Done {
     pub number: u8,
+    pub place: WordIndex,
     pub steps: u32,
 }
 
@@ -110,13 +112,14 @@ pub struct Done {
 pub extern "C" fn ovenlute_run(list: &[u16], screen: &mut [u8], env: &mut Env, budget: u32) -> Done
     ensures { λ r.
         ⌜ Promise (now (list .entry)) (now (screen .entry)) (now (env .entry)) budget
-        (record { number = r .number; env = now (env .exit); steps = r .steps }) (now (screen .exit)) ⌝ }
+        (record { number = r .number; place = r .place; env = now (env .exit); steps = r .steps }) (now (screen .exit)) ⌝ }
 {
     let before = *env;
     let answer = run::run::run(list, screen, before, budget);
     *env = answer.env;
     Done {
         number: answer.number,
+        place: answer.place,
         steps: answer.steps,
     }
 }

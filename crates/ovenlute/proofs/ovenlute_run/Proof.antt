@@ -61,7 +61,7 @@ use Rattle.ovenlute.proofs.ovenlute_run.Code as code
 
 -- the small result of an answer
 abbrev doneOf : Answer → Done
-doneOf r = record { number = r .number; steps = r .steps }
+doneOf r = record { number = r .number; place = r .place; steps = r .steps }
 
 abbrev stayed : Stays (lent.ended .signature .params) (lent.ended .kept)
 stayed = (stay-none-slice (0 ∷ []) tt (plain (λ _. u16)) yes, (gave-slice (1 ∷ []) tt (plain (λ _. u8)), (stay-ref (2 ∷ []) tt (plain (λ _. T.the-row)), (stay-none (λ _. u32) yes, tt))))
@@ -123,17 +123,17 @@ module _ {M : Type 1} (𝓤 : URA M) (H : Heap 𝓤) (A : Atoms 𝓤) (W : Given
 
   -- what whoever holds the answer knows of its fields
   env-is : (r : Answer) (w : Val) → Is B.the-row r (w ∷ []) → Is T.the-row (r .env) (env-val (r .env) ∷ [])
-  env-is r w is = LL.owed B.the-type B′.the-laws r _ is .1 .0
+  env-is r w is = LL.owed B.the-type B′.the-laws r _ is .1 .1 .0
 
   number-fits : (r : Answer) (w : Val) → Is B.the-row r (w ∷ []) → r .number < 2 ^ 8
   number-fits r w is = LL.owed B.the-type B′.the-laws r _ is .0 .1
 
   steps-fit : (r : Answer) (w : Val) → Is B.the-row r (w ∷ []) → r .steps < 2 ^ 32
-  steps-fit r w is = LL.owed B.the-type B′.the-laws r _ is .1 .1 .0 .1
+  steps-fit r w is = LL.owed B.the-type B′.the-laws r _ is .1 .1 .1 .0 .1
 
   -- what whoever makes the small result owes
   done-is : (r : Answer) (w : Val) → Is B.the-row r (w ∷ []) → Is D.the-row (doneOf r) (done-val (doneOf r) ∷ [])
-  done-is r w is = LL.owes D.the-type D′.the-laws (doneOf r) ((refl, number-fits r w is), ((refl, steps-fit r w is), tt))
+  done-is r w is = LL.owes D.the-type D′.the-laws (doneOf r) ((refl, number-fits r w is), (LL.owed B.the-type B′.the-laws r _ is .1 .0, ((refl, steps-fit r w is), tt)))
 
   exits : (r : Answer) (zs : List ℕ) → Says r zs → length zs ≡ length (ss .now) → Is D.the-row (doneOf r) (done-val (doneOf r) ∷ [])
       → ent 𝓤 (⋆ 𝓤 H A (‵ (fobs γ (T.the-row .coded .code (r .env))) ∷ ‵ (fbor κ₂ (Body (mem T.the-row) b o γ)) ∷ ‵ (flft κ₂ q₂) ∷ (‵ (flft κ₀ q₀) ⊛ ‵ (flft κ₁ q₁) ⊛ ‵ ftrue) ∷ ‵ (finally u8 (ss .name) zs) ∷ ‵ List-own ∷ [])) (Post (done-val (doneOf r)))
@@ -177,8 +177,8 @@ module _ {M : Type 1} (𝓤 : URA M) (H : Heap 𝓤) (A : Atoms 𝓤) (W : Given
         move ! (3 ∷ []) $ split ! $ move ! (1 ∷ []) $ peeks ! B.the-row (Is B.the-row) (shows 𝓤 H A B.the-row) r (w ∷ []) (λ is.
         land ! (from ! (stop !)) (init ! 15 refl (LL.lawful B.the-type B′.the-laws 𝓤 H A W .typed r _ is .0)) $ rewrite ! 15 (λ (u : Val). ‵ (fat fullShare B′.mir l₆ 0 u)) (ap only (LL.tells B.the-type B′.the-laws r _ is)) refl $
         -- [what the answer owns; the tokens; the screen's last list; true; true; the list; the cell; what the Env owned; the open borrow; obs; auth; _8; …; _7; …; _6; …; _5; …; _4; …; _3; …; _2; …; _1; …; room for _0; …]
-        assigns ! (of-opd ! (load ! (from ! (fld ! refl (stop !))) (look-in ! 15 (sub ! 1 refl (whole !))))) (from ! (hop ! (look ! 21 refl) (stop !))) (store-raw ! 6 refl (LL.lawful T.the-type T′.the-laws 𝓤 H A W .typed (r .env) _ (env-is r w is) .0)) $
-        assigns ! (agg ! (and-then ! (load ! (from ! (fld ! refl (stop !))) (look-in ! 15 (sub ! 0 refl (whole !)))) (and-then ! (load ! (from ! (fld ! refl (stop !))) (look-in ! 15 (sub ! 2 refl (whole !)))) (no-more !)))) (from ! (stop !)) (init ! 27 refl (LL.lawful D.the-type D′.the-laws 𝓤 H A W .typed (doneOf r) _ (done-is r w is) .0)) $
+        assigns ! (of-opd ! (load ! (from ! (fld ! refl (stop !))) (look-in ! 15 (sub ! 2 refl (whole !))))) (from ! (hop ! (look ! 21 refl) (stop !))) (store-raw ! 6 refl (LL.lawful T.the-type T′.the-laws 𝓤 H A W .typed (r .env) _ (env-is r w is) .0)) $
+        assigns ! (agg ! (and-then ! (load ! (from ! (fld ! refl (stop !))) (look-in ! 15 (sub ! 0 refl (whole !)))) (and-then ! (load ! (from ! (fld ! refl (stop !))) (look-in ! 15 (sub ! 1 refl (whole !)))) (and-then ! (load ! (from ! (fld ! refl (stop !))) (look-in ! 15 (sub ! 3 refl (whole !)))) (no-more !))))) (from ! (stop !)) (init ! 27 refl (LL.lawful D.the-type D′.the-laws 𝓤 H A W .typed (doneOf r) _ (done-is r w is) .0)) $
         -- the borrow is closed at the answer's environment
         owned ! T.the-row (Is T.the-row) (LL.makes T.the-type T′.the-plain 𝓤 H A) (r .env) _ (env-is r w is) $ move ! (7 ∷ 0 ∷ 9 ∷ 10 ∷ 11 ∷ []) $ closes ! tt T.the-row (r .env) (env-val (r .env) ∷ []) b o $
         -- [obs; the borrow; κ₂'s token; what the answer owns; the tokens; the screen's last list; true; true; the list; what the Env owned; _8; …]
