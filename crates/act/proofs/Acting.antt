@@ -9,8 +9,9 @@ use Rattle.raster.specs.Shapes.{Shape}
 use Rattle.raster.specs.Frame.{drawable}
 use Rattle.raster.specs.Brush.{Holds}
 use Rattle.player.specs.Painting.{Painting, nothing}
-use Rattle.player.specs.declared.Verdict.{Verdict}
-use Rattle.player.specs.Player.{fault, verdict, Outcome, done, refused}
+use Rattle.player.specs.declared.Upshot.{Upshot}
+use Rattle.player.specs.declared.Upshot.the-variants.{Brushed}
+use Rattle.player.specs.Player.{fault, Outcome, done, refused}
 use Rattle.player.specs.Shown.{marks, unmarked, went, stayed}
 use Rattle.numbers.specs.declared.place.WordIndex.{WordIndex}
 use Rattle.rules.specs.Environment.{Env, goto, frame}
@@ -78,9 +79,9 @@ module _ (rule : Env → Rule) (next : WordIndex) (e : Env) (p : List ℕ) where
   unfolding does carried
   past f k same x = goes k (rw same at x)
 
-  -- 1 came back, with the environment that it says, its frame that of before, and the brush holds the shape
-  pub drawn : {v : Verdict} {e' : Env} → lowest r ≡ none → v ≡ verdict 1 → e' ≡ r .env → frame (r .env) ≡ frame e → Holds (r .shape) (r .colour) p
-      → seen v e' p ≡ does rule next e p
+  -- it was brushed, with the environment that it says, its frame that of before, and the brush holds the shape
+  pub drawn : {u : Upshot} {e' : Env} → lowest r ≡ none → u ≡ Brushed → e' ≡ r .env → frame (r .env) ≡ frame e → Holds (r .shape) (r .colour) p
+      → seen u e' p ≡ does rule next e p
   drawn k z env framed h = goes k (rw (z, env, framed, h .shape, h .colour))
 
   -- where the shape is empty, no dot is painted

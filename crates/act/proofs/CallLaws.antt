@@ -11,8 +11,8 @@ use Rattle.numbers.specs.declared.place.WordIndex.{WordIndex}
 use Rattle.numbers.specs.declared.place.Target.{Target}
 use Rattle.numbers.specs.declared.place.Target.the-variants.{At, Refused}
 use Rattle.raster.specs.declared.frame.Bounds.{Bounds}
-use Rattle.player.specs.declared.Verdict.{Verdict}
-use Rattle.player.specs.Player.{fault, verdict}
+use Rattle.player.specs.declared.Upshot.{Upshot}
+use Rattle.player.specs.declared.Upshot.the-variants.{Quiet}
 use Rattle.rules.specs.declared.opcode.Operands.{Operands}
 use Rattle.rules.specs.Op as Op
 use Rattle.rules.specs.Environment.{Env, firsts, goto, stacked}
@@ -20,7 +20,7 @@ use Rattle.rules.specs.Opcodes.{calls, rule}
 use Rattle.rules.proofs.StackLaws.{length-firsts, push, pop, each}
 use Rattle.act.specs.Lent.{celled, indexed, look, Recelled, Deepened}
 use Rattle.act.specs.Shown.{does}
-use Rattle.act.specs.Contracts.{Stacks, Stacked}
+use Rattle.act.specs.Contracts.{refusedHere, Stacks, Stacked}
 use Rattle.act.proofs.Acting.{stays, paints-nothing}
 use Rattle.act.proofs.Handing.{settled}
 use Rattle.act.proofs.LentLaws.{indexed-set, indexed-at, indexed-length}
@@ -32,11 +32,11 @@ then-to n {i} cs p g b ps vs st = g .shows b ps vs st ∙ ap (goto i) (p .1 b ps
 
 -- ---- a call, and a return; d is the depth
 module _ (t : Target) (next : WordIndex) {cs st : List ℕ} (pre : Stacked cs st) where
-  pub call-27 : t ≡ Refused → {v : Verdict} → v ≡ fault 27 (celled cs .counter) → Stacks v (does (calls t) next) cs cs st st
+  pub call-27 : t ≡ Refused → {u : Upshot} → u ≡ refusedHere 27 cs → Stacks u (does (calls t) next) cs cs st st
   call-27 m told = record { cells = pre .cells; deep = pre .full; tells = λ b ps vs s. stays _ _ _ s {n = 27} (rw m) (rw told) }
 
   module _ {i : WordIndex} (m : t ≡ At i) {d : ℕ} (is : d ≡ celled cs .depth) where
-    pub call-28 : 16 ≤ d → {v : Verdict} → v ≡ fault 28 (celled cs .counter) → Stacks v (does (calls t) next) cs cs st st
+    pub call-28 : 16 ≤ d → {u : Upshot} → u ≡ refusedHere 28 cs → Stacks u (does (calls t) next) cs cs st st
     call-28 h told =
         record {
           cells = pre .cells;
@@ -45,8 +45,8 @@ module _ (t : Target) (next : WordIndex) {cs st : List ℕ} (pre : Stacked cs st
         }
 
     -- the next opcode's index is stored at the depth
-    pub call-at : d < 16 → {v : Verdict} {cs' cs'' st' : List ℕ} → st' ≡ set st d (next .0) → Deepened (d + 1) cs cs' → (v ≡ verdict 0) × Recelled (goto i) cs' cs''
-        → Stacks v (does (calls t) next) cs cs'' st st'
+    pub call-at : d < 16 → {u : Upshot} {cs' cs'' st' : List ℕ} → st' ≡ set st d (next .0) → Deepened (d + 1) cs cs' → (u ≡ Quiet) × Recelled (goto i) cs' cs''
+        → Stacks u (does (calls t) next) cs cs'' st st'
     call-at h e p g = rw e (record {
       cells = g .1 .full;
       deep = simp length-set (pre .full);
@@ -57,13 +57,13 @@ module _ (t : Target) (next : WordIndex) {cs st : List ℕ} (pre : Stacked cs st
     })
 
 -- the target t is what T makes of the environment at the next opcode
-pub call-aimed : {t : Target} (next : WordIndex) (T : Env → Target) → ((e : Env) → t ≡ T (goto next e)) → {v : Verdict} {cs cs' st st' : List ℕ}
-    → Stacks v (does (calls t) next) cs cs' st st' → Stacks v (does (λ e. calls (T e) e) next) cs cs' st st'
+pub call-aimed : {t : Target} (next : WordIndex) (T : Env → Target) → ((e : Env) → t ≡ T (goto next e)) → {u : Upshot} {cs cs' st st' : List ℕ}
+    → Stacks u (does (calls t) next) cs cs' st st' → Stacks u (does (λ e. calls (T e) e) next) cs cs' st st'
 unfolding does
 call-aimed next T is p = record { cells = p .cells; deep = p .deep; tells = λ b ps vs s. rw (← is _) (p .tells b ps vs s) }
 
 module _ (o : Operands) (n : ℕ) (next : WordIndex) {cs st : List ℕ} (pre : Stacked cs st) {d : ℕ} (is : d ≡ celled cs .depth) where
-  pub back-29 : d ≡ 0 → {v : Verdict} → v ≡ fault 29 (celled cs .counter) → Stacks v (does (rule Op.Return o n) next) cs cs st st
+  pub back-29 : d ≡ 0 → {u : Upshot} → u ≡ refusedHere 29 cs → Stacks u (does (rule Op.Return o n) next) cs cs st st
   back-29 z told =
       record {
         cells = pre .cells;
@@ -75,8 +75,8 @@ module _ (o : Operands) (n : ℕ) (next : WordIndex) {cs st : List ℕ} (pre : S
   index e = λ j. record { 0 = e j }
 
   -- the last return stacked stands below the depth
-  pub back-at : (d ≡ 0 → ⊥) → {i : WordIndex} → i .0 ≡ getD st (d - 1) 0 → {v : Verdict} {cs' cs'' : List ℕ} → Deepened (d - 1) cs cs' → (v ≡ verdict 0) × Recelled (goto i) cs' cs''
-      → Stacks v (does (rule Op.Return o n) next) cs cs'' st st
+  pub back-at : (d ≡ 0 → ⊥) → {i : WordIndex} → i .0 ≡ getD st (d - 1) 0 → {u : Upshot} {cs' cs'' : List ℕ} → Deepened (d - 1) cs cs' → (u ≡ Quiet) × Recelled (goto i) cs' cs''
+      → Stacks u (does (rule Op.Return o n) next) cs cs'' st st
   back-at h {i} at p g =
       let above : suc (d - 1) ≡ d = omega (arith, h) in
       record {

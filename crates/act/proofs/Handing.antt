@@ -7,7 +7,8 @@ use lib.IntN.{ℤ}
 use Rattle.numbers.specs.declared.place.WordIndex.{WordIndex}
 use Rattle.raster.specs.declared.frame.Bounds.{Bounds}
 use Rattle.player.specs.declared.Verdict.{Verdict}
-use Rattle.player.specs.Player.{verdict}
+use Rattle.player.specs.declared.Upshot.{Upshot}
+use Rattle.player.specs.declared.Upshot.the-variants as Upshot
 use Rattle.player.specs.Shown.{unmarked, went}
 use Rattle.rules.specs.declared.opcode.Operands.{Operands}
 use Rattle.rules.specs.Environment.{Env}
@@ -20,57 +21,57 @@ use Rattle.act.specs.Shown.{seen, does, answers}
 use Rattle.act.specs.Contracts.{Goes, Sets, Stacks, Moves, Paints, Draws, Brushed}
 
 module _ {t : Taken} {v : Verdict} (f : Operands → Env → Rule) (e : t ≡ Refused v) {cs : List ℕ} (l : CellsFull cs) where
-  pub passed-goes : Goes v (answers t f) cs cs
+  pub passed-goes : Goes (Upshot.Refused v) (answers t f) cs cs
   unfolding answers
   passed-goes = record { cells = l; tells = λ b ps vs st s. rw e }
 
-  pub passed-sets : {vs : List ℕ} → Sets v (answers t f) cs cs vs vs
+  pub passed-sets : {vs : List ℕ} → Sets (Upshot.Refused v) (answers t f) cs cs vs vs
   unfolding answers
   passed-sets = record { cells = l; tells = λ b ps st s. rw e }
 
-  pub passed-stacks : {st : List ℕ} → length st ≡ 16 → Stacks v (answers t f) cs cs st st
+  pub passed-stacks : {st : List ℕ} → length st ≡ 16 → Stacks (Upshot.Refused v) (answers t f) cs cs st st
   unfolding answers
   passed-stacks d = record { cells = l; deep = d; tells = λ b ps vs s. rw e }
 
-  pub passed-moves : {ps : List ℤ} → PointsFull ps → Moves v (answers t f) cs cs ps ps
+  pub passed-moves : {ps : List ℤ} → PointsFull ps → Moves (Upshot.Refused v) (answers t f) cs cs ps ps
   unfolding answers
   passed-moves k = record { cells = l; points = k; tells = λ b vs st s. rw e }
 
-  pub passed-paints : {p : List ℕ} → Brushed p → Paints v (answers t f) cs cs p
+  pub passed-paints : {p : List ℕ} → Brushed p → Paints (Upshot.Refused v) (answers t f) cs cs p
   unfolding answers
   passed-paints k = record { cells = l; brush = k; tells = λ b ps vs st. rw e }
 
-  pub passed-draws : {ps : List ℤ} {p : List ℕ} → PointsFull ps → Brushed p → Draws v (answers t f) cs cs ps ps p
+  pub passed-draws : {ps : List ℤ} {p : List ℕ} → PointsFull ps → Brushed p → Draws (Upshot.Refused v) (answers t f) cs cs ps ps p
   unfolding answers
   passed-draws h k = record { cells = l; points = h; brush = k; tells = λ b vs st. rw e }
 
-module _ {t : Taken} {o : Operands} {next : WordIndex} (f : Operands → Env → Rule) (e : t ≡ Got o next) {v : Verdict} {cs cs' : List ℕ} where
-  pub got-goes : Goes v (does (f o) next) cs cs' → Goes v (answers t f) cs cs'
+module _ {t : Taken} {o : Operands} {next : WordIndex} (f : Operands → Env → Rule) (e : t ≡ Got o next) {u : Upshot} {cs cs' : List ℕ} where
+  pub got-goes : Goes u (does (f o) next) cs cs' → Goes u (answers t f) cs cs'
   unfolding answers
   got-goes p = rw e p
 
-  pub got-sets : {vs vs' : List ℕ} → Sets v (does (f o) next) cs cs' vs vs' → Sets v (answers t f) cs cs' vs vs'
+  pub got-sets : {vs vs' : List ℕ} → Sets u (does (f o) next) cs cs' vs vs' → Sets u (answers t f) cs cs' vs vs'
   unfolding answers
   got-sets p = rw e p
 
-  pub got-stacks : {st st' : List ℕ} → Stacks v (does (f o) next) cs cs' st st' → Stacks v (answers t f) cs cs' st st'
+  pub got-stacks : {st st' : List ℕ} → Stacks u (does (f o) next) cs cs' st st' → Stacks u (answers t f) cs cs' st st'
   unfolding answers
   got-stacks p = rw e p
 
-  pub got-moves : {ps ps' : List ℤ} → Moves v (does (f o) next) cs cs' ps ps' → Moves v (answers t f) cs cs' ps ps'
+  pub got-moves : {ps ps' : List ℤ} → Moves u (does (f o) next) cs cs' ps ps' → Moves u (answers t f) cs cs' ps ps'
   unfolding answers
   got-moves p = rw e p
 
-  pub got-paints : {p : List ℕ} → Paints v (does (f o) next) cs cs' p → Paints v (answers t f) cs cs' p
+  pub got-paints : {p : List ℕ} → Paints u (does (f o) next) cs cs' p → Paints u (answers t f) cs cs' p
   unfolding answers
   got-paints d = rw e d
 
-  pub got-draws : {ps ps' : List ℤ} {p : List ℕ} → Draws v (does (f o) next) cs cs' ps ps' p → Draws v (answers t f) cs cs' ps ps' p
+  pub got-draws : {ps ps' : List ℤ} {p : List ℕ} → Draws u (does (f o) next) cs cs' ps ps' p → Draws u (answers t f) cs cs' ps ps' p
   unfolding answers
   got-draws d = rw e d
 
--- 0 came back: the environment e' that is left is e, and no dot is painted
-pub settled : (p : List ℕ) {v : Verdict} → v ≡ verdict 0 → {e e' : Env} → e' ≡ e → seen v e' p ≡ went e (unmarked (e .bounds))
+-- it was quiet: the environment e' that is left is e, and no dot is painted
+pub settled : (p : List ℕ) {u : Upshot} → u ≡ Upshot.Quiet → {e e' : Env} → e' ≡ e → seen u e' p ≡ went e (unmarked (e .bounds))
 settled p z h = rw (z, h)
 
 -- one change of cells, and then another

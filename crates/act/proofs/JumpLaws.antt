@@ -7,8 +7,8 @@ use Rattle.numbers.specs.declared.place.WordIndex.{WordIndex}
 use Rattle.numbers.specs.declared.place.Target.{Target}
 use Rattle.numbers.specs.declared.place.Target.the-variants.{At, Refused}
 use Rattle.numbers.specs.Number.{signed32}
-use Rattle.player.specs.declared.Verdict.{Verdict}
-use Rattle.player.specs.Player.{fault, verdict}
+use Rattle.player.specs.declared.Upshot.{Upshot}
+use Rattle.player.specs.declared.Upshot.the-variants.{Quiet}
 use Rattle.rules.specs.Conditions.{allowed, met}
 use Rattle.rules.specs.Environment.{Env, goto}
 use Rattle.rules.specs.Opcodes.{jumps}
@@ -17,7 +17,7 @@ use Rattle.act.specs.declared.flow.Condition.the-variants.{NotAllowed, M
 use Rattle.act.specs.Lent.{celled, CellsFull, Recelled}
 use Rattle.act.specs.Shown.{does}
 use Rattle.act.specs.Conditions.{meeting, conditionOf}
-use Rattle.act.specs.Contracts.{Goes}
+use Rattle.act.specs.Contracts.{refusedHere, Goes}
 use Rattle.act.proofs.Acting.{stays, paints-nothing}
 use Rattle.act.proofs.Handing.{settled}
 
@@ -41,26 +41,26 @@ module _ (k : ℕ) (t : Target) (next : WordIndex) (cs : List ℕ) {x y : ℕ} {
   asked : {d : Condition} → c ≡ d → Judged d k (celled cs .first) (celled cs .second)
   asked p = rw (← px, ← py) (judged k x y is p)
 
-  module _ {v : Verdict} where
-    pub jump-24 : c ≡ NotAllowed → CellsFull cs → v ≡ fault 24 (celled cs .counter) → Goes v (does (jumps k t) next) cs cs
+  module _ {u : Upshot} where
+    pub jump-24 : c ≡ NotAllowed → CellsFull cs → u ≡ refusedHere 24 cs → Goes u (does (jumps k t) next) cs cs
     jump-24 p l told = record { cells = l; tells = λ b ps vs st s. stays _ _ _ s {n = 24} (rw (asked p)) (rw told) }
 
-    pub jump-27 : c ≡ Met → t ≡ Refused → CellsFull cs → v ≡ fault 27 (celled cs .counter) → Goes v (does (jumps k t) next) cs cs
+    pub jump-27 : c ≡ Met → t ≡ Refused → CellsFull cs → u ≡ refusedHere 27 cs → Goes u (does (jumps k t) next) cs cs
     jump-27 p m l told = let j = asked p in record { cells = l; tells = λ b ps vs st s. stays _ _ _ s {n = 27} (rw (j .0, j .1, m)) (rw told) }
 
-  module _ {v : Verdict} {cs' : List ℕ} where
-    pub jump-no : c ≡ Unmet → (v ≡ verdict 0) × Recelled (goto next) cs cs' → Goes v (does (jumps k t) next) cs cs'
+  module _ {u : Upshot} {cs' : List ℕ} where
+    pub jump-no : c ≡ Unmet → (u ≡ Quiet) × Recelled (goto next) cs cs' → Goes u (does (jumps k t) next) cs cs'
     jump-no p g =
         let j = asked p in
         record { cells = g .1 .full; tells = λ b ps vs st s. paints-nothing _ _ _ s (rw (j .0, j .1)) refl (rw (j .1) (settled s (g .0) (g .1 .shows b ps vs st))) }
 
-    pub jump-at : c ≡ Met → {i : WordIndex} → t ≡ At i → (v ≡ verdict 0) × Recelled (goto i) cs cs' → Goes v (does (jumps k t) next) cs cs'
+    pub jump-at : c ≡ Met → {i : WordIndex} → t ≡ At i → (u ≡ Quiet) × Recelled (goto i) cs cs' → Goes u (does (jumps k t) next) cs cs'
     jump-at p m g =
         let j = asked p in
         record { cells = g .1 .full; tells = λ b ps vs st s. paints-nothing _ _ _ s (rw (j .0, j .1, m)) refl (rw (j .1, m) (settled s (g .0) (g .1 .shows b ps vs st))) }
 
 -- the target t is what T makes of the environment at the next opcode
-pub jump-aimed : (k : ℕ) {t : Target} (next : WordIndex) (T : Env → Target) → ((e : Env) → t ≡ T (goto next e)) → {v : Verdict} {cs cs' : List ℕ}
-    → Goes v (does (jumps k t) next) cs cs' → Goes v (does (λ e. jumps k (T e) e) next) cs cs'
+pub jump-aimed : (k : ℕ) {t : Target} (next : WordIndex) (T : Env → Target) → ((e : Env) → t ≡ T (goto next e)) → {u : Upshot} {cs cs' : List ℕ}
+    → Goes u (does (jumps k t) next) cs cs' → Goes u (does (λ e. jumps k (T e) e) next) cs cs'
 unfolding does
 jump-aimed k next T is p = record { cells = p .cells; tells = λ b ps vs st s. rw (← is _) (p .tells b ps vs st s) }

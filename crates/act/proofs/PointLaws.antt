@@ -14,7 +14,7 @@ use Rattle.numbers.specs.declared.coordinate.Coordinate.the-variants.{Within, O
 use Rattle.numbers.specs.declared.place.WordIndex.{WordIndex}
 use Rattle.numbers.proofs.Answers.{told-first, told-second, clash}
 use Rattle.raster.specs.declared.dots.Dot.{Dot}
-use Rattle.player.specs.declared.Verdict.{Verdict}
+use Rattle.player.specs.declared.Upshot.{Upshot}
 use Rattle.rules.specs.Opcodes.{far, shifted, dots}
 use Rattle.rules.proofs.Ranges.{one, other}
 use Rattle.rules.proofs.DoorLaws.{coord}
@@ -74,8 +74,8 @@ module _ {r : Answer.Point} (out : Bool) (p : Dot) (is : r ≡ pointUnless out p
   told-at e = let t = told-second out (λ o. clash (cc)) (sym is ∙ e) in (t .0, cc)
 
 -- ---- dots at d in the colour c, which is the foreground's
-pub foreground : (d : Dot) (next : WordIndex) {c : ℕ} {v : Verdict} {cs cs' p : List ℕ} → c ≡ celled cs .colour
-    → Paints v (does (dots d c) next) cs cs' p → Paints v (does (λ e. dots d (e .pen .colour) e) next) cs cs' p
+pub foreground : (d : Dot) (next : WordIndex) {c : ℕ} {u : Upshot} {cs cs' p : List ℕ} → c ≡ celled cs .colour
+    → Paints u (does (dots d c) next) cs cs' p → Paints u (does (λ e. dots d (e .pen .colour) e) next) cs cs' p
 unfolding does
 foreground d next {cs = cs} {p = p} e h =
     record { cells = h .cells; brush = h .brush; tells = λ b ps vs st. h .tells b ps vs st ∙ ap (λ c. does (dots d c) next (look b cs ps vs st) p) e }

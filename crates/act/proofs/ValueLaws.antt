@@ -8,8 +8,7 @@ use Rattle.numbers.specs.declared.arith.Division.the-variants.{Gives, ByZero}
 use Rattle.numbers.specs.declared.place.WordIndex.{WordIndex}
 use Rattle.numbers.specs.Number.{unlessZero}
 use Rattle.numbers.proofs.Division.{told-by-zero, told-gives}
-use Rattle.player.specs.declared.Verdict.{Verdict}
-use Rattle.player.specs.Player.{fault}
+use Rattle.player.specs.declared.Upshot.{Upshot}
 use Rattle.rules.specs.declared.opcode.Operands.{Operands}
 use Rattle.rules.specs.Environment.{Env}
 use Rattle.rules.specs.Operands.{at}
@@ -18,9 +17,9 @@ use Rattle.rules.specs.Step.{carried}
 use Rattle.act.specs.declared.values.Calculation.{Calculation}
 use Rattle.act.specs.declared.values.Calculation.the-variants.{Sum, And, Or, Product, OneMore, OneLess}
 use Rattle.act.specs.Calculations.{calculated, opOf}
-use Rattle.act.specs.Lent.{celled, CellsFull}
+use Rattle.act.specs.Lent.{CellsFull}
 use Rattle.act.specs.Shown.{does}
-use Rattle.act.specs.Contracts.{Sets}
+use Rattle.act.specs.Contracts.{refusedHere, Sets}
 use Rattle.act.proofs.Acting.{stays}
 
 -- v in Vd, unless the divisor is zero
@@ -29,7 +28,7 @@ divides v o e = refuse 26 (eqb (o .a) 0) (gives v o e)
 
 module _ (o : Operands) (next : WordIndex) {cs vs : List ℕ} where
   -- x is Vd's value: a rule of x
-  module _ {u : Verdict} {cs' vs' : List ℕ} {x : ℕ} (d : x ≡ at vs (o .dest .0)) where
+  module _ {u : Upshot} {cs' vs' : List ℕ} {x : ℕ} (d : x ≡ at vs (o .dest .0)) where
     pub of-old : (R : ℕ → Env → Rule) → Sets u (does (R x) next) cs cs' vs vs' → Sets u (does (λ e. R (old o e) e) next) cs cs' vs vs'
     unfolding does
     of-old R s = record { cells = s .cells; tells = λ b ps st scr. rw (← d) (s .tells b ps st scr) }
@@ -49,10 +48,10 @@ module _ (o : Operands) (next : WordIndex) {cs vs : List ℕ} where
 
   -- the answer x of a division that gives n
   module _ (n : ℕ) {x : Division} (is : x ≡ unlessZero (o .a) n) where
-    pub by-zero : x ≡ ByZero → CellsFull cs → {u : Verdict} → u ≡ fault 26 (celled cs .counter) → Sets u (does (divides n o) next) cs cs vs vs
+    pub by-zero : x ≡ ByZero → CellsFull cs → {u : Upshot} → u ≡ refusedHere 26 cs → Sets u (does (divides n o) next) cs cs vs vs
     by-zero z l told = record { cells = l; tells = λ b ps st s. stays _ _ _ s {n = 26} (rw (told-by-zero (o .a) n (sym is ∙ z))) (rw told) }
 
-    pub by-other : {u : Verdict} {v : ℕ} {cs' vs' : List ℕ} → x ≡ Gives v → Sets u (does (gives v o) next) cs cs' vs vs' → Sets u (does (divides n o) next) cs cs' vs vs'
+    pub by-other : {u : Upshot} {v : ℕ} {cs' vs' : List ℕ} → x ≡ Gives v → Sets u (does (gives v o) next) cs cs' vs vs' → Sets u (does (divides n o) next) cs cs' vs vs'
     unfolding does carried
     by-other {v = v} g p =
         let t = told-gives (o .a) n v (sym is ∙ g) in

@@ -2,9 +2,9 @@
 use Prim.Native.Nat.{ℕ}
 use mathlib.Core.List.{List}
 use Rattle.numbers.specs.declared.place.WordIndex.{WordIndex}
-use Rattle.player.specs.declared.Verdict.{Verdict}
+use Rattle.player.specs.declared.Upshot.{Upshot}
 use Rattle.player.specs.Shown as Any
-use Rattle.player.specs.Shown.{shown}
+use Rattle.player.specs.Shown.{stayed, shown}
 use Rattle.rules.specs.declared.opcode.Operands.{Operands}
 use Rattle.rules.specs.Environment.{Env, goto, frame}
 use Rattle.rules.specs.Opcodes.{Rule}
@@ -15,8 +15,8 @@ use Rattle.fetch.specs.declared.source.Taken.the-variants.{Refused, Got}
 abbrev pub Shown : Type 0
 Shown = Any.Shown Env
 
-abbrev pub seen : Verdict → Env → List ℕ → Shown
-seen v e p = Any.seen frame v e p
+abbrev pub seen : Upshot → Env → List ℕ → Shown
+seen u e p = Any.seen frame u e p
 
 -- a rule carried out, with the next opcode at an index
 unfoldable pub does : (Env → Rule) → WordIndex → Env → List ℕ → Shown
@@ -24,5 +24,5 @@ does rule next e p = shown (carried (rule (goto next e)) e) e
 
 -- the same by what was taken
 unfoldable pub answers : Taken → (Operands → Env → Rule) → Env → List ℕ → Shown
-answers (Refused v) rule e p = seen v e p
+answers (Refused v) rule e p = stayed v e
 answers (Got o next) rule e p = does (rule o) next e p

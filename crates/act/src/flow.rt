@@ -18,7 +18,7 @@ use numbers::place::Target;
 use numbers::place::WordIndex;
 use numbers::place::word_at;
 use numbers::place::word_from;
-use player::Verdict;
+use player::Upshot;
 use rules::opcode::Operands;
 ghost use mathlib.Core.Path.{_≡_};
 ghost use Prim.Native.Nat.{ℕ};
@@ -58,7 +58,7 @@ fn condition_of(k: u32, first: u32, second: u32) -> Condition
 }
 
 // A jump on condition k: one not taken does not look at its target.
-fn jump_to(k: u32, t: Target, next: WordIndex, cells: &mut Cells) -> Verdict
+fn jump_to(k: u32, t: Target, next: WordIndex, cells: &mut Cells) -> Upshot
     requires { ⌜ CellsFull (now cells) ⌝ }
     ensures { λ q. ⌜ Goes q (does (jumps k t) next) (now (cells .entry)) (now (cells .exit)) ⌝ }
 {
@@ -74,29 +74,29 @@ fn jump_to(k: u32, t: Target, next: WordIndex, cells: &mut Cells) -> Verdict
 }
 
 // a: the condition; b: the target's bit address.
-pub fn jump(t: Taken, count: u32, cells: &mut Cells) -> Verdict
+pub fn jump(t: Taken, count: u32, cells: &mut Cells) -> Upshot
     requires { ⌜ CellsFull (now cells) ⌝ }
     ensures { λ q. ⌜ Goes q (answers t (λ o. rule Op.Jump o count)) (now (cells .entry)) (now (cells .exit)) ⌝ }
 {
     match t {
-        Taken::Refused(v) => v,
+        Taken::Refused(v) => Upshot::Refused(v),
         Taken::Got(o, next) => jump_to(o.a, word_at(BitAddress(o.b), count), next, cells),
     }
 }
 
 // a: the condition; b: the offset in words.
-pub fn jump_by(t: Taken, count: u32, cells: &mut Cells) -> Verdict
+pub fn jump_by(t: Taken, count: u32, cells: &mut Cells) -> Upshot
     requires { ⌜ CellsFull (now cells) ⌝ }
     ensures { λ q. ⌜ Goes q (answers t (λ o. rule Op.JumpBy o count)) (now (cells .entry)) (now (cells .exit)) ⌝ }
 {
     match t {
-        Taken::Refused(v) => v,
+        Taken::Refused(v) => Upshot::Refused(v),
         Taken::Got(o, next) => jump_to(o.a, word_from(next, o.b, count), next, cells),
     }
 }
 
 // A call: the return index is the next opcode's.
-fn call_to(t: Target, next: WordIndex, cells: &mut Cells, stack: &mut Stack) -> Verdict
+fn call_to(t: Target, next: WordIndex, cells: &mut Cells, stack: &mut Stack) -> Upshot
     requires { ⌜ Stacked (now cells) (now stack) ⌝ }
     ensures { λ q. ⌜ Stacks q (does (calls t) next) (now (cells .entry)) (now (cells .exit)) (now (stack .entry)) (now (stack .exit)) ⌝ }
 {
@@ -115,33 +115,33 @@ fn call_to(t: Target, next: WordIndex, cells: &mut Cells, stack: &mut Stack) -> 
 }
 
 // a: the target's bit address.
-pub fn call(t: Taken, count: u32, cells: &mut Cells, stack: &mut Stack) -> Verdict
+pub fn call(t: Taken, count: u32, cells: &mut Cells, stack: &mut Stack) -> Upshot
     requires { ⌜ Stacked (now cells) (now stack) ⌝ }
     ensures { λ q.
         ⌜ Stacks q (answers t (λ o. rule Op.Call o count))
         (now (cells .entry)) (now (cells .exit)) (now (stack .entry)) (now (stack .exit)) ⌝ }
 {
     match t {
-        Taken::Refused(v) => v,
+        Taken::Refused(v) => Upshot::Refused(v),
         Taken::Got(o, next) => call_to(word_at(BitAddress(o.a), count), next, cells, stack),
     }
 }
 
 // a: the offset in words.
-pub fn call_by(t: Taken, count: u32, cells: &mut Cells, stack: &mut Stack) -> Verdict
+pub fn call_by(t: Taken, count: u32, cells: &mut Cells, stack: &mut Stack) -> Upshot
     requires { ⌜ Stacked (now cells) (now stack) ⌝ }
     ensures { λ q.
         ⌜ Stacks q (answers t (λ o. rule Op.CallBy o count))
         (now (cells .entry)) (now (cells .exit)) (now (stack .entry)) (now (stack .exit)) ⌝ }
 {
     match t {
-        Taken::Refused(v) => v,
+        Taken::Refused(v) => Upshot::Refused(v),
         Taken::Got(o, next) => call_to(word_from(next, o.a, count), next, cells, stack),
     }
 }
 
 // To the last return stacked, untested.
-fn back(cells: &mut Cells, stack: &Stack) -> Verdict
+fn back(cells: &mut Cells, stack: &Stack) -> Upshot
     requires { ⌜ Stacked (now cells) (now stack) ⌝ }
     ensures { λ q.
         ⌜ ((o : Operands) (n : ℕ) (next : WordIndex)
@@ -155,34 +155,34 @@ fn back(cells: &mut Cells, stack: &Stack) -> Verdict
     finish(cells, stacked_at(stack, d - 1))
 }
 
-pub fn come_back(t: Taken, cells: &mut Cells, stack: &Stack) -> Verdict
+pub fn come_back(t: Taken, cells: &mut Cells, stack: &Stack) -> Upshot
     requires { ⌜ Stacked (now cells) (now stack) ⌝ }
     ensures { λ q.
         ⌜ ((n : ℕ) → Stacks q (answers t (λ o. rule Op.Return o n))
         (now (cells .entry)) (now (cells .exit)) (now (stack .entry)) (now (stack .entry))) ⌝ }
 {
     match t {
-        Taken::Refused(v) => v,
+        Taken::Refused(v) => Upshot::Refused(v),
         Taken::Got(_, _) => back(cells, stack),
     }
 }
 
-pub fn noop(t: Taken, cells: &mut Cells) -> Verdict
+pub fn noop(t: Taken, cells: &mut Cells) -> Upshot
     requires { ⌜ CellsFull (now cells) ⌝ }
     ensures { λ q. ⌜ ((n : ℕ) → Goes q (answers t (λ o. rule Op.Noop o n)) (now (cells .entry)) (now (cells .exit))) ⌝ }
 {
     match t {
-        Taken::Refused(v) => v,
+        Taken::Refused(v) => Upshot::Refused(v),
         Taken::Got(_, next) => finish(cells, next),
     }
 }
 
-pub fn end(t: Taken, cells: &mut Cells) -> Verdict
+pub fn end(t: Taken, cells: &mut Cells) -> Upshot
     requires { ⌜ CellsFull (now cells) ⌝ }
     ensures { λ q. ⌜ ((n : ℕ) → Goes q (answers t (λ o. rule Op.End o n)) (now (cells .entry)) (now (cells .exit))) ⌝ }
 {
     match t {
-        Taken::Refused(v) => v,
+        Taken::Refused(v) => Upshot::Refused(v),
         Taken::Got(_, next) => {
             set_ended(cells);
             finish(cells, next)

@@ -1,5 +1,4 @@
-// What was fetched is carried out, or refused with one of 24 to 29 where the opcode begins, and nothing changed: the verdict,
-// whose number is 0, or 1 where the brush holds what is to be painted.
+// What was fetched is carried out, or refused with one of 24 to 29 where the opcode begins, and nothing changed.
 pub mod registers; // the registers, lent as two arrays
 pub mod stack; // the stacked returns, lent as an array
 pub mod values; // variables and the values compared

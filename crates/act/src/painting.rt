@@ -12,7 +12,7 @@ use crate::registers::set_position;
 use fetch::source::Taken;
 use numbers::place::WordIndex;
 use numbers::value::low8;
-use player::Verdict;
+use player::Upshot;
 use raster::brush::Brush;
 use raster::brush::hold_all;
 use raster::brush::hold_dot;
@@ -30,7 +30,7 @@ ghost use Rattle.act.specs.Shown.{does, answers};
 ghost use Rattle.act.specs.Contracts.{Paints, Draws, Handed, Drawable, Coords};
 
 // One dot at the point (x, y).
-fn dot_at(x: u32, y: u32, c: u8, next: WordIndex, cells: &mut Cells, brush: &mut Brush) -> Verdict
+fn dot_at(x: u32, y: u32, c: u8, next: WordIndex, cells: &mut Cells, brush: &mut Brush) -> Upshot
     requires { ⌜ Handed (now cells) (now brush) ⌝ }
     ensures { λ q.
         ⌜ Paints q (does (dots (Opcodes.point x y) c) next)
@@ -44,14 +44,14 @@ fn dot_at(x: u32, y: u32, c: u8, next: WordIndex, cells: &mut Cells, brush: &mut
 }
 
 // a, b: x and y.
-pub fn pixel(t: Taken, cells: &mut Cells, brush: &mut Brush) -> Verdict
+pub fn pixel(t: Taken, cells: &mut Cells, brush: &mut Brush) -> Upshot
     requires { ⌜ Handed (now cells) (now brush) ⌝ }
     ensures { λ q.
         ⌜ ((n : ℕ) → Paints q (answers t (λ o. rule Op.Pixel o n))
         (now (cells .entry)) (now (cells .exit)) (now (brush .exit))) ⌝ }
 {
     match t {
-        Taken::Refused(v) => v,
+        Taken::Refused(v) => Upshot::Refused(v),
         Taken::Got(o, next) => {
             let c = colour(&*cells);
             dot_at(o.a, o.b, c, next, cells, brush)
@@ -60,14 +60,14 @@ pub fn pixel(t: Taken, cells: &mut Cells, brush: &mut Brush) -> Verdict
 }
 
 // a, b: x and y; c: the colour's long.
-pub fn pixel_colour(t: Taken, cells: &mut Cells, brush: &mut Brush) -> Verdict
+pub fn pixel_colour(t: Taken, cells: &mut Cells, brush: &mut Brush) -> Upshot
     requires { ⌜ Handed (now cells) (now brush) ⌝ }
     ensures { λ q.
         ⌜ ((n : ℕ) → Paints q (answers t (λ o. rule Op.PixelColour o n))
         (now (cells .entry)) (now (cells .exit)) (now (brush .exit))) ⌝ }
 {
     match t {
-        Taken::Refused(v) => v,
+        Taken::Refused(v) => Upshot::Refused(v),
         Taken::Got(o, next) => {
             let c = low8(o.c);
             dot_at(o.a, o.b, c, next, cells, brush)
@@ -83,14 +83,14 @@ fn other_type(given: u32) -> bool
 }
 
 // A line in the foreground colour. a: its type; b, c: x0 and y0; d, e: x1 and y1.
-pub fn line(t: Taken, cells: &mut Cells, brush: &mut Brush) -> Verdict
+pub fn line(t: Taken, cells: &mut Cells, brush: &mut Brush) -> Upshot
     requires { ⌜ Handed (now cells) (now brush) ⌝ }
     ensures { λ q.
         ⌜ ((n : ℕ) → Paints q (answers t (λ o. rule Op.Line o n))
         (now (cells .entry)) (now (cells .exit)) (now (brush .exit))) ⌝ }
 {
     match t {
-        Taken::Refused(v) => v,
+        Taken::Refused(v) => Upshot::Refused(v),
         Taken::Got(o, next) => {
             if other_type(o.a) {
                 return refuse(&*cells, 24);
@@ -114,7 +114,7 @@ fn draw_to(
     cells: &mut Cells,
     points: &mut Points,
     brush: &mut Brush,
-) -> Verdict
+) -> Upshot
     requires { ⌜ Drawable (now cells) (now points) (now brush) × Coords q ⌝ }
     ensures { λ r.
         ⌜ Draws r (does (λ e. paints (Lines.line (record { from = e .pen .position; to = q })) (e .pen .colour) (moved q e)) next)
@@ -127,14 +127,14 @@ fn draw_to(
 }
 
 // a: the line's type; b, c: x and y.
-pub fn line_to(t: Taken, cells: &mut Cells, points: &mut Points, brush: &mut Brush) -> Verdict
+pub fn line_to(t: Taken, cells: &mut Cells, points: &mut Points, brush: &mut Brush) -> Upshot
     requires { ⌜ Drawable (now cells) (now points) (now brush) ⌝ }
     ensures { λ q.
         ⌜ ((n : ℕ) → Draws q (answers t (λ o. rule Op.LineTo o n))
         (now (cells .entry)) (now (cells .exit)) (now (points .entry)) (now (points .exit)) (now (brush .exit))) ⌝ }
 {
     match t {
-        Taken::Refused(v) => v,
+        Taken::Refused(v) => Upshot::Refused(v),
         Taken::Got(o, next) => {
             if other_type(o.a) {
                 return refuse(&*cells, 24);
@@ -148,14 +148,14 @@ pub fn line_to(t: Taken, cells: &mut Cells, points: &mut Points, brush: &mut Bru
 }
 
 // a: the line's type; b, c: dx and dy.
-pub fn line_by(t: Taken, cells: &mut Cells, points: &mut Points, brush: &mut Brush) -> Verdict
+pub fn line_by(t: Taken, cells: &mut Cells, points: &mut Points, brush: &mut Brush) -> Upshot
     requires { ⌜ Drawable (now cells) (now points) (now brush) ⌝ }
     ensures { λ q.
         ⌜ ((n : ℕ) → Draws q (answers t (λ o. rule Op.LineBy o n))
         (now (cells .entry)) (now (cells .exit)) (now (points .entry)) (now (points .exit)) (now (brush .exit))) ⌝ }
 {
     match t {
-        Taken::Refused(v) => v,
+        Taken::Refused(v) => Upshot::Refused(v),
         Taken::Got(o, next) => {
             if other_type(o.a) {
                 return refuse(&*cells, 24);
@@ -170,14 +170,14 @@ pub fn line_by(t: Taken, cells: &mut Cells, points: &mut Points, brush: &mut Bru
 }
 
 // Every drawable pixel. a: the colour's long; b: the wait word, which is ignored.
-pub fn clear(t: Taken, cells: &mut Cells, brush: &mut Brush) -> Verdict
+pub fn clear(t: Taken, cells: &mut Cells, brush: &mut Brush) -> Upshot
     requires { ⌜ Handed (now cells) (now brush) ⌝ }
     ensures { λ q.
         ⌜ ((n : ℕ) → Paints q (answers t (λ o. rule Op.Clear o n))
         (now (cells .entry)) (now (cells .exit)) (now (brush .exit))) ⌝ }
 {
     match t {
-        Taken::Refused(v) => v,
+        Taken::Refused(v) => Upshot::Refused(v),
         Taken::Got(o, next) => {
             hold_all(brush, low8(o.a));
             finish_painting(cells, next)

@@ -13,7 +13,7 @@ use crate::registers::set_position;
 use crate::registers::set_window;
 use fetch::source::Taken;
 use numbers::value::low8;
-use player::Verdict;
+use player::Upshot;
 use raster::dots::Dot;
 use raster::frame::Window;
 ghost use mathlib.Core.Path.{_≡_};
@@ -26,12 +26,12 @@ ghost use Rattle.act.specs.Shown.{answers};
 ghost use Rattle.act.specs.Contracts.{Goes, Moves};
 
 // a: the mode.
-pub fn clip_mode(t: Taken, cells: &mut Cells) -> Verdict
+pub fn clip_mode(t: Taken, cells: &mut Cells) -> Upshot
     requires { ⌜ CellsFull (now cells) ⌝ }
     ensures { λ q. ⌜ ((n : ℕ) → Goes q (answers t (λ o. rule Op.ClipMode o n)) (now (cells .entry)) (now (cells .exit))) ⌝ }
 {
     match t {
-        Taken::Refused(v) => v,
+        Taken::Refused(v) => Upshot::Refused(v),
         Taken::Got(o, next) => {
             if 2 < o.a {
                 return refuse(&*cells, 24);
@@ -55,14 +55,14 @@ fn window(p: Dot, q: Dot) -> Window
 }
 
 // a, b: x0 and y0; c, d: x1 and y1.
-pub fn clip_window(t: Taken, cells: &mut Cells, points: &mut Points) -> Verdict
+pub fn clip_window(t: Taken, cells: &mut Cells, points: &mut Points) -> Upshot
     requires { ⌜ CellsFull (now cells) × PointsFull (now points) ⌝ }
     ensures { λ q.
         ⌜ ((n : ℕ) → Moves q (answers t (λ o. rule Op.ClipWindow o n))
         (now (cells .entry)) (now (cells .exit)) (now (points .entry)) (now (points .exit))) ⌝ }
 {
     match t {
-        Taken::Refused(v) => v,
+        Taken::Refused(v) => Upshot::Refused(v),
         Taken::Got(o, next) => {
             let Point::At(p) = point_of(o.a, o.b) else {
                 return refuse(&*cells, 25);
@@ -77,12 +77,12 @@ pub fn clip_window(t: Taken, cells: &mut Cells, points: &mut Points) -> Verdict
 }
 
 // The low 8 bits. a: the colour's long.
-pub fn colour(t: Taken, cells: &mut Cells) -> Verdict
+pub fn colour(t: Taken, cells: &mut Cells) -> Upshot
     requires { ⌜ CellsFull (now cells) ⌝ }
     ensures { λ q. ⌜ ((n : ℕ) → Goes q (answers t (λ o. rule Op.Colour o n)) (now (cells .entry)) (now (cells .exit))) ⌝ }
 {
     match t {
-        Taken::Refused(v) => v,
+        Taken::Refused(v) => Upshot::Refused(v),
         Taken::Got(o, next) => {
             set_colour(cells, low8(o.a));
             finish(cells, next)
@@ -91,14 +91,14 @@ pub fn colour(t: Taken, cells: &mut Cells) -> Verdict
 }
 
 // a, b: x and y.
-pub fn move_to(t: Taken, cells: &mut Cells, points: &mut Points) -> Verdict
+pub fn move_to(t: Taken, cells: &mut Cells, points: &mut Points) -> Upshot
     requires { ⌜ CellsFull (now cells) × PointsFull (now points) ⌝ }
     ensures { λ q.
         ⌜ ((n : ℕ) → Moves q (answers t (λ o. rule Op.MoveTo o n))
         (now (cells .entry)) (now (cells .exit)) (now (points .entry)) (now (points .exit))) ⌝ }
 {
     match t {
-        Taken::Refused(v) => v,
+        Taken::Refused(v) => Upshot::Refused(v),
         Taken::Got(o, next) => {
             let Point::At(p) = point_of(o.a, o.b) else {
                 return refuse(&*cells, 25);
@@ -110,14 +110,14 @@ pub fn move_to(t: Taken, cells: &mut Cells, points: &mut Points) -> Verdict
 }
 
 // a, b: dx and dy.
-pub fn move_by(t: Taken, cells: &mut Cells, points: &mut Points) -> Verdict
+pub fn move_by(t: Taken, cells: &mut Cells, points: &mut Points) -> Upshot
     requires { ⌜ CellsFull (now cells) × PointsFull (now points) ⌝ }
     ensures { λ q.
         ⌜ ((n : ℕ) → Moves q (answers t (λ o. rule Op.MoveBy o n))
         (now (cells .entry)) (now (cells .exit)) (now (points .entry)) (now (points .exit))) ⌝ }
 {
     match t {
-        Taken::Refused(v) => v,
+        Taken::Refused(v) => Upshot::Refused(v),
         Taken::Got(o, next) => {
             let here = position(&*points);
             let Point::At(p) = point_by(here, o.a, o.b) else {

@@ -1,6 +1,7 @@
 // The registers that opcodes change, lent as two arrays.
 use numbers::place::WordIndex;
 use numbers::value::low8;
+use player::Upshot;
 use player::Verdict;
 use player::carrying_0;
 use raster::dots::Dot;
@@ -12,11 +13,11 @@ ghost use mathlib.Core.Path.{_≡_};
 ghost use mathlib.Core.List.{List};
 ghost use Prim.Native.Nat.{ℕ};
 ghost use Rattle.player.specs.declared.State.the-variants.{Ended};
-ghost use Rattle.player.specs.Player.{fault, verdict};
 ghost use Rattle.rules.specs.Environment as Environment;
 ghost use Rattle.rules.specs.Environment.{goto, compared, clipped, coloured, stated, moved, windowed, stateOf};
 ghost use Rattle.act.specs.Lent as Lent;
 ghost use Rattle.act.specs.Lent.{registers, celled, pointed, look, CellsFull, PointsFull, Recelled, Repointed, Deepened};
+ghost use Rattle.act.specs.Contracts.{refusedHere};
 
 // Numbers, each at the place where the functions below read it.
 pub type Cells = [u32; 8];
@@ -79,32 +80,32 @@ fn set_counter(cells: &mut Cells, i: WordIndex)
     cells[0] = i.0;
 }
 
-// The last thing that an opcode does: the list goes on at i, and 0, nothing is to be painted.
-pub fn finish(cells: &mut Cells, i: WordIndex) -> Verdict
+// The last thing that an opcode does: the list goes on at i, and nothing is to be painted.
+pub fn finish(cells: &mut Cells, i: WordIndex) -> Upshot
     requires { ⌜ CellsFull (now cells) ⌝ }
-    ensures { λ v. ⌜ (v ≡ verdict 0) × Recelled (goto i) (now (cells .entry)) (now (cells .exit)) ⌝ }
+    ensures { λ u. ⌜ (u ≡ Upshot.Quiet) × Recelled (goto i) (now (cells .entry)) (now (cells .exit)) ⌝ }
 {
     set_counter(cells, i);
-    carrying_0(0)
+    Upshot::Quiet
 }
 
-// The same of an opcode that paints: 1, what the brush holds is to be painted.
-pub fn finish_painting(cells: &mut Cells, i: WordIndex) -> Verdict
+// The same of an opcode that paints: what the brush holds is to be painted.
+pub fn finish_painting(cells: &mut Cells, i: WordIndex) -> Upshot
     requires { ⌜ CellsFull (now cells) ⌝ }
-    ensures { λ v. ⌜ (v ≡ verdict 1) × Recelled (goto i) (now (cells .entry)) (now (cells .exit)) ⌝ }
+    ensures { λ u. ⌜ (u ≡ Upshot.Brushed) × Recelled (goto i) (now (cells .entry)) (now (cells .exit)) ⌝ }
 {
     set_counter(cells, i);
-    carrying_0(1)
+    Upshot::Brushed
 }
 
 // An opcode that is refused, where it begins.
-pub fn refuse(cells: &Cells, number: u8) -> Verdict
-    ensures { λ v. ⌜ v ≡ fault number (celled (now (cells .entry)) .counter) ⌝ }
+pub fn refuse(cells: &Cells, number: u8) -> Upshot
+    ensures { λ u. ⌜ u ≡ refusedHere number (now (cells .entry)) ⌝ }
 {
-    Verdict {
+    Upshot::Refused(Verdict {
         number,
         place: counter(cells),
-    }
+    })
 }
 
 pub fn first(cells: &Cells) -> u32

@@ -7,7 +7,7 @@ use fetch::source::Taken;
 use numbers::arith;
 use numbers::arith::Division;
 use numbers::place::WordIndex;
-use player::Verdict;
+use player::Upshot;
 use rules::opcode::Operands;
 ghost use mathlib.Core.Path.{_≡_};
 ghost use Prim.Native.Nat.{ℕ, _<_};
@@ -33,7 +33,7 @@ fn old(o: Operands, vars: &[u32; 64]) -> u32
 }
 
 // A value into Vd.
-fn put(o: Operands, next: WordIndex, v: u32, cells: &mut Cells, vars: &mut [u32; 64]) -> Verdict
+fn put(o: Operands, next: WordIndex, v: u32, cells: &mut Cells, vars: &mut [u32; 64]) -> Upshot
     requires { ⌜ (o .dest .0 < 64) × CellsFull (now cells) ⌝ }
     ensures { λ q. ⌜ Sets q (does (gives v o) next) (now (cells .entry)) (now (cells .exit)) (now (vars .entry)) (now (vars .exit)) ⌝ }
 {
@@ -42,14 +42,14 @@ fn put(o: Operands, next: WordIndex, v: u32, cells: &mut Cells, vars: &mut [u32;
     finish(cells, next)
 }
 
-pub fn load(t: Taken, cells: &mut Cells, vars: &mut [u32; 64]) -> Verdict
+pub fn load(t: Taken, cells: &mut Cells, vars: &mut [u32; 64]) -> Upshot
     requires { ⌜ Destined t × CellsFull (now cells) ⌝ }
     ensures { λ q.
         ⌜ ((n : ℕ) → Sets q (answers t (λ o. rule Op.Load o n))
         (now (cells .entry)) (now (cells .exit)) (now (vars .entry)) (now (vars .exit))) ⌝ }
 {
     match t {
-        Taken::Refused(v) => v,
+        Taken::Refused(v) => Upshot::Refused(v),
         Taken::Got(o, next) => put(o, next, o.a, cells, vars),
     }
 }
@@ -77,14 +77,14 @@ fn calculated(c: Calculation, old: u32, a: u32) -> u32
     }
 }
 
-fn calculate(c: Calculation, t: Taken, cells: &mut Cells, vars: &mut [u32; 64]) -> Verdict
+fn calculate(c: Calculation, t: Taken, cells: &mut Cells, vars: &mut [u32; 64]) -> Upshot
     requires { ⌜ Destined t × CellsFull (now cells) ⌝ }
     ensures { λ q.
         ⌜ ((n : ℕ) → Sets q (answers t (λ o. rule (opOf c) o n))
         (now (cells .entry)) (now (cells .exit)) (now (vars .entry)) (now (vars .exit))) ⌝ }
 {
     match t {
-        Taken::Refused(v) => v,
+        Taken::Refused(v) => Upshot::Refused(v),
         Taken::Got(o, next) => {
             let v = calculated(c, old(o, &*vars), o.a);
             put(o, next, v, cells, vars)
@@ -92,7 +92,7 @@ fn calculate(c: Calculation, t: Taken, cells: &mut Cells, vars: &mut [u32; 64]) 
     }
 }
 
-pub fn add(t: Taken, cells: &mut Cells, vars: &mut [u32; 64]) -> Verdict
+pub fn add(t: Taken, cells: &mut Cells, vars: &mut [u32; 64]) -> Upshot
     requires { ⌜ Destined t × CellsFull (now cells) ⌝ }
     ensures { λ q.
         ⌜ ((n : ℕ) → Sets q (answers t (λ o. rule Op.Add o n))
@@ -101,7 +101,7 @@ pub fn add(t: Taken, cells: &mut Cells, vars: &mut [u32; 64]) -> Verdict
     calculate(Calculation::Sum, t, cells, vars)
 }
 
-pub fn and(t: Taken, cells: &mut Cells, vars: &mut [u32; 64]) -> Verdict
+pub fn and(t: Taken, cells: &mut Cells, vars: &mut [u32; 64]) -> Upshot
     requires { ⌜ Destined t × CellsFull (now cells) ⌝ }
     ensures { λ q.
         ⌜ ((n : ℕ) → Sets q (answers t (λ o. rule Op.And o n))
@@ -110,7 +110,7 @@ pub fn and(t: Taken, cells: &mut Cells, vars: &mut [u32; 64]) -> Verdict
     calculate(Calculation::And, t, cells, vars)
 }
 
-pub fn or(t: Taken, cells: &mut Cells, vars: &mut [u32; 64]) -> Verdict
+pub fn or(t: Taken, cells: &mut Cells, vars: &mut [u32; 64]) -> Upshot
     requires { ⌜ Destined t × CellsFull (now cells) ⌝ }
     ensures { λ q.
         ⌜ ((n : ℕ) → Sets q (answers t (λ o. rule Op.Or o n))
@@ -119,7 +119,7 @@ pub fn or(t: Taken, cells: &mut Cells, vars: &mut [u32; 64]) -> Verdict
     calculate(Calculation::Or, t, cells, vars)
 }
 
-pub fn multiply(t: Taken, cells: &mut Cells, vars: &mut [u32; 64]) -> Verdict
+pub fn multiply(t: Taken, cells: &mut Cells, vars: &mut [u32; 64]) -> Upshot
     requires { ⌜ Destined t × CellsFull (now cells) ⌝ }
     ensures { λ q.
         ⌜ ((n : ℕ) → Sets q (answers t (λ o. rule Op.Multiply o n))
@@ -128,7 +128,7 @@ pub fn multiply(t: Taken, cells: &mut Cells, vars: &mut [u32; 64]) -> Verdict
     calculate(Calculation::Product, t, cells, vars)
 }
 
-pub fn increment(t: Taken, cells: &mut Cells, vars: &mut [u32; 64]) -> Verdict
+pub fn increment(t: Taken, cells: &mut Cells, vars: &mut [u32; 64]) -> Upshot
     requires { ⌜ Destined t × CellsFull (now cells) ⌝ }
     ensures { λ q.
         ⌜ ((n : ℕ) → Sets q (answers t (λ o. rule Op.Increment o n))
@@ -137,7 +137,7 @@ pub fn increment(t: Taken, cells: &mut Cells, vars: &mut [u32; 64]) -> Verdict
     calculate(Calculation::OneMore, t, cells, vars)
 }
 
-pub fn decrement(t: Taken, cells: &mut Cells, vars: &mut [u32; 64]) -> Verdict
+pub fn decrement(t: Taken, cells: &mut Cells, vars: &mut [u32; 64]) -> Upshot
     requires { ⌜ Destined t × CellsFull (now cells) ⌝ }
     ensures { λ q.
         ⌜ ((n : ℕ) → Sets q (answers t (λ o. rule Op.Decrement o n))
@@ -153,7 +153,7 @@ fn put_unless_zero(
     x: Division,
     cells: &mut Cells,
     vars: &mut [u32; 64],
-) -> Verdict
+) -> Upshot
     requires { ⌜ (o .dest .0 < 64) × CellsFull (now cells) ⌝ }
     ensures { λ q.
         ⌜ ((v : ℕ) → x ≡ unlessZero (o .a) v
@@ -165,14 +165,14 @@ fn put_unless_zero(
     }
 }
 
-pub fn divide(t: Taken, cells: &mut Cells, vars: &mut [u32; 64]) -> Verdict
+pub fn divide(t: Taken, cells: &mut Cells, vars: &mut [u32; 64]) -> Upshot
     requires { ⌜ Destined t × CellsFull (now cells) ⌝ }
     ensures { λ q.
         ⌜ ((n : ℕ) → Sets q (answers t (λ o. rule Op.Divide o n))
         (now (cells .entry)) (now (cells .exit)) (now (vars .entry)) (now (vars .exit))) ⌝ }
 {
     match t {
-        Taken::Refused(v) => v,
+        Taken::Refused(v) => Upshot::Refused(v),
         Taken::Got(o, next) => {
             let x = arith::quotient(old(o, &*vars), o.a);
             put_unless_zero(o, next, x, cells, vars)
@@ -180,14 +180,14 @@ pub fn divide(t: Taken, cells: &mut Cells, vars: &mut [u32; 64]) -> Verdict
     }
 }
 
-pub fn remainder(t: Taken, cells: &mut Cells, vars: &mut [u32; 64]) -> Verdict
+pub fn remainder(t: Taken, cells: &mut Cells, vars: &mut [u32; 64]) -> Upshot
     requires { ⌜ Destined t × CellsFull (now cells) ⌝ }
     ensures { λ q.
         ⌜ ((n : ℕ) → Sets q (answers t (λ o. rule Op.Remainder o n))
         (now (cells .entry)) (now (cells .exit)) (now (vars .entry)) (now (vars .exit))) ⌝ }
 {
     match t {
-        Taken::Refused(v) => v,
+        Taken::Refused(v) => Upshot::Refused(v),
         Taken::Got(o, next) => {
             let x = arith::remainder(old(o, &*vars), o.a);
             put_unless_zero(o, next, x, cells, vars)
@@ -196,14 +196,14 @@ pub fn remainder(t: Taken, cells: &mut Cells, vars: &mut [u32; 64]) -> Verdict
 }
 
 // Vd's value is kept first, the other second.
-pub fn compare(t: Taken, cells: &mut Cells, vars: &[u32; 64]) -> Verdict
+pub fn compare(t: Taken, cells: &mut Cells, vars: &[u32; 64]) -> Upshot
     requires { ⌜ Destined t × CellsFull (now cells) ⌝ }
     ensures { λ q.
         ⌜ ((n : ℕ) → Sets q (answers t (λ o. rule Op.Compare o n))
         (now (cells .entry)) (now (cells .exit)) (now (vars .entry)) (now (vars .entry))) ⌝ }
 {
     match t {
-        Taken::Refused(v) => v,
+        Taken::Refused(v) => Upshot::Refused(v),
         Taken::Got(o, next) => {
             keep_compared(cells, old(o, vars), o.a);
             finish(cells, next)

@@ -12,12 +12,14 @@ use Rattle.raster.specs.Paint.{paint}
 use Rattle.raster.specs.Brush.{shapeOf, colourOf}
 use Rattle.raster.proofs.Recolour.{none, length-recolour}
 use Rattle.player.specs.declared.Verdict.{Verdict}
+use Rattle.player.specs.declared.Upshot.{Upshot}
+use Rattle.player.specs.declared.Upshot.the-variants.{Quiet, Brushed, Refused}
 use Rattle.player.specs.declared.State.{State}
 use Rattle.player.specs.declared.State.the-variants.{Running, Ended, Stopped}
 use Rattle.player.specs.Painting.{Painting, painted}
 use Rattle.player.specs.Player.{Outcome, done, refused, Player}
 use Rattle.player.specs.Run.{Answer, answer, by-state, by-opcode, runs}
-use Rattle.player.specs.Shown.{Marks, marks, unmarked, marked, went, stayed, shown, brushed, by-number, seen, verdictOf}
+use Rattle.player.specs.Shown.{Marks, marks, unmarked, marked, went, stayed, shown, brushed, seen, verdictOf}
 
 one-less : (b k : ℕ) → k < b → b - k ≡ suc (b - (k + 1))
 one-less b k h = omega arith
@@ -33,27 +35,6 @@ marked-is p s = refl
 unmarked-is : (b : Bounds) (s : List ℕ) → s ≡ marked (unmarked b) s
 unmarked-is b s = none (λ k. false) 0 s (λ k l t. t)
 
--- ---- the verdict v that came back, with the environment e and the brush p
-module _ {E : Type 0} (frame : E → Frame) (e : E) (p : List ℕ) (v : Verdict) where
-  quiet : v .number ≤ 1 → (v .number ≡ 1 → ⊥) → went e (unmarked (frame e .bounds)) ≡ seen frame v e p
-  quiet = by (v .number)
-    where
-      by : (n : ℕ) → n ≤ 1 → (n ≡ 1 → ⊥) → went e (unmarked (frame e .bounds)) ≡ by-number frame n v e p
-      by zero h n = refl
-      by (suc zero) h n = absurd (n refl)
-      by (suc (suc q)) h n = absurd (omega (arith, h))
-
-  pub painting : v .number ≡ 1 → went e (marks (brushed (frame e) p)) ≡ seen frame v e p
-  painting z = rw z
-
-  pub not-carried-out : 1 < v .number → stayed v e ≡ seen frame v e p
-  not-carried-out = by (v .number)
-    where
-      by : (n : ℕ) → 1 < n → stayed v e ≡ by-number frame n v e p
-      by zero n = absurd (omega (arith, n))
-      by (suc zero) n = absurd (omega (arith, n))
-      by (suc (suc q)) n = refl
-
 module _ {E : Type 0} (P : Player E) where
   -- an opcode that was carried out in e, with the screen s: e₁ and s₁ are left
   pub record Turned (e : E) (s : List ℕ) (e₁ : E) (s₁ : List ℕ) : Type 0 where
@@ -64,21 +45,26 @@ module _ {E : Type 0} (P : Player E) where
   pub turned-long : {e : E} {s : List ℕ} {e₁ : E} {s₁ : List ℕ} → Turned e s e₁ s₁ → length s₁ ≡ length s
   turned-long {s = s} t = ap length (t .screen) ∙ length-recolour _ _ s
 
-  module _ (frame : E → Frame) (e : E) (s : List ℕ) (v : Verdict) (e₁ : E) (p : List ℕ) (as-shown : seen frame v e₁ p ≡ shown (P .step e) e) {s₁ : List ℕ} where
-    -- 1 came back, and what the brush holds was painted
-    pub turned-painting : v .number ≡ 1 → {f : Frame} → f ≡ frame e₁ → s₁ ≡ paint f (shapeOf p) (colourOf p) s → Turned e s e₁ s₁
-    turned-painting z is x =
+  module _ (frame : E → Frame) (e : E) (s : List ℕ) {u : Upshot} (e₁ : E) (p : List ℕ) (as-shown : seen frame u e₁ p ≡ shown (P .step e) e) where
+    -- what the brush holds is to be painted
+    pub painting : u ≡ Brushed → went e₁ (marks (brushed (frame e₁) p)) ≡ shown (P .step e) e
+    painting is = rw is at as-shown
+
+    pub turned-painting : u ≡ Brushed → {s₁ : List ℕ} {f : Frame} → f ≡ frame e₁ → s₁ ≡ paint f (shapeOf p) (colourOf p) s → Turned e s e₁ s₁
+    turned-painting is same x =
         record {
           dots = marks (brushed (frame e₁) p);
-          screen = x ∙ (ap (λ (g : Frame). paint g (shapeOf p) (colourOf p) s) is ∙ sym (marked-is (brushed (frame e₁) p) s));
-          shows = painting frame e₁ p v z ∙ as-shown;
+          screen = x ∙ (ap (λ (g : Frame). paint g (shapeOf p) (colourOf p) s) same ∙ sym (marked-is (brushed (frame e₁) p) s));
+          shows = painting is;
         }
 
-    -- 0 came back, and nothing was
-    pub turned-quiet : v .number ≤ 1 → (v .number ≡ 1 → ⊥) → s₁ ≡ s → Turned e s e₁ s₁
-    turned-quiet h n x =
-        let b = frame e₁ .bounds in
-        record { dots = unmarked b; screen = x ∙ unmarked-is b s; shows = quiet frame e₁ p v h n ∙ as-shown }
+    -- nothing is
+    pub turned-quiet : u ≡ Quiet → {s₁ : List ℕ} → s₁ ≡ s → Turned e s e₁ s₁
+    turned-quiet is x = let b = frame e₁ .bounds in record { dots = unmarked b; screen = x ∙ unmarked-is b s; shows = rw is at as-shown }
+
+    -- it is refused
+    pub not-carried-out : {v : Verdict} → u ≡ Refused v → stayed v e₁ ≡ shown (P .step e) e
+    not-carried-out is = rw is at as-shown
 
 module _ {E : Type 0} (P : Player E) (left : ℕ) (e : E) (s : List ℕ) (k : ℕ) where
   abbrev turn : State → Outcome E → Answer E

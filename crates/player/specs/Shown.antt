@@ -1,5 +1,5 @@
 -- What is seen of an opcode from outside, for which no screen is needed; what of it a loop paints; and what a state answers.
-use Prim.Native.Nat.{ℕ, zero, suc}
+use Prim.Native.Nat.{ℕ}
 use mathlib.Core.Bool.{false, _&&_}
 use mathlib.Core.List.{List}
 use Rattle.raster.specs.declared.frame.Bounds.{Bounds}
@@ -9,6 +9,8 @@ use Rattle.raster.specs.Frame.{drawable}
 use Rattle.raster.specs.Paint.{recolour, columnOf, rowOf}
 use Rattle.raster.specs.Brush.{shapeOf, colourOf}
 use Rattle.player.specs.declared.Verdict.{Verdict}
+use Rattle.player.specs.declared.Upshot.{Upshot}
+use Rattle.player.specs.declared.Upshot.the-variants.{Quiet, Brushed, Refused}
 use Rattle.player.specs.declared.State.{State}
 use Rattle.player.specs.declared.State.the-variants.{Running, Ended, Stopped}
 use Rattle.player.specs.Painting.{Painting}
@@ -44,14 +46,11 @@ shown (refused v) e = stayed v e
 abbrev pub brushed : Frame → List ℕ → Painting
 brushed f p = record { frame = f; shape = shapeOf p; colour = colourOf p }
 
-abbrev pub by-number : {E : Type 0} → (E → Frame) → ℕ → Verdict → E → List ℕ → Shown E
-by-number frame zero v e p = went e (unmarked (frame e .bounds))
-by-number frame (suc zero) v e p = went e (marks (brushed (frame e) p))
-by-number frame (suc (suc n)) v e p = stayed v e
-
--- what a program hands back, with the environment and the brush that it leaves: 0, nothing is painted; 1, what the brush holds; or a refusal
-abbrev pub seen : {E : Type 0} → (E → Frame) → Verdict → E → List ℕ → Shown E
-seen frame v e p = by-number frame (v .number) v e p
+-- what a program hands back, with the environment and the brush that it leaves: nothing is painted, or what the brush holds, or a refusal
+abbrev pub seen : {E : Type 0} → (E → Frame) → Upshot → E → List ℕ → Shown E
+seen frame Quiet e p = went e (unmarked (frame e .bounds))
+seen frame Brushed e p = went e (marks (brushed (frame e) p))
+seen frame (Refused v) e p = stayed v e
 
 -- ---- what a state answers; of one that still runs, that the budget is used up
 abbrev pub verdictOf : State → Verdict

@@ -20,6 +20,13 @@ pub fn carrying_0(number: u8) -> Verdict
     }
 }
 
+// What an opcode came to: it is carried out and paints nothing, or what the brush holds; or it is refused.
+pub enum Upshot {
+    Quiet,
+    Brushed,
+    Refused(Verdict),
+}
+
 // The state that an environment holds: stopped with the refusal.
 pub enum State {
     Running,

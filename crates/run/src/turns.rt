@@ -5,6 +5,7 @@ use act::registers::frame;
 use act::registers::set_state;
 use act::registers::state;
 use act::stack::Stack;
+use player::Upshot;
 use raster::brush::Brush;
 use raster::brush::paint;
 use raster::frame::Bounds;
@@ -38,13 +39,14 @@ pub fn turns(
             return steps;
         }
         let mut brush: Brush = [0; 6];
-        let v = step(words, cells, points, vars, stack, &mut brush);
-        if 1 < v.number {
-            set_state(cells, v);
-            return steps;
-        }
-        if v.number == 1 {
-            paint(screen, frame(b, &*cells, &*points), &brush);
+        let upshot = step(words, cells, points, vars, stack, &mut brush);
+        match upshot {
+            Upshot::Quiet => {}
+            Upshot::Brushed => paint(screen, frame(b, &*cells, &*points), &brush),
+            Upshot::Refused(v) => {
+                set_state(cells, v);
+                return steps;
+            }
         }
         steps += 1;
     }

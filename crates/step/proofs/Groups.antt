@@ -4,7 +4,7 @@ use mathlib.Core.Path.{_≡_, sym, ap, _∙_, subst}
 use mathlib.Core.List.{List}
 use lib.ListN.{length}
 use lib.IntN.{ℤ}
-use Rattle.player.specs.declared.Verdict.{Verdict}
+use Rattle.player.specs.declared.Upshot.{Upshot}
 use Rattle.rules.specs.Op.{Op}
 use Rattle.rules.specs.Operands.{Source}
 use Rattle.rules.specs.Meaning.{Meaning, Known}
@@ -21,24 +21,24 @@ module _ {m : Meaning} {op : Op} {source : Source} (k : m ≡ Known op source) (
   unfolding shows
   as-shown = ap (λ (x : Taken). answers x (λ o. rule op o (length w))) g ∙ sym (ap (λ (x : Meaning). shows x w pc vs) k)
 
-  module _ {v : Verdict} {cs cs' : List ℕ} where
-    pub sets : {vs₀ vs' : List ℕ} → Sets v (answers t (λ o. rule op o (length w))) cs cs' vs₀ vs' → Sets v (shows m w pc vs) cs cs' vs₀ vs'
-    sets {vs₀} {vs'} r = subst (λ (x : Showing). Sets v x cs cs' vs₀ vs') as-shown r
+  module _ {u : Upshot} {cs cs' : List ℕ} where
+    pub sets : {vs₀ vs' : List ℕ} → Sets u (answers t (λ o. rule op o (length w))) cs cs' vs₀ vs' → Sets u (shows m w pc vs) cs cs' vs₀ vs'
+    sets {vs₀} {vs'} r = subst (λ (x : Showing). Sets u x cs cs' vs₀ vs') as-shown r
 
-    pub stacks : {st st' : List ℕ} → Stacks v (answers t (λ o. rule op o (length w))) cs cs' st st' → Stacks v (shows m w pc vs) cs cs' st st'
-    stacks {st} {st'} r = subst (λ (x : Showing). Stacks v x cs cs' st st') as-shown r
+    pub stacks : {st st' : List ℕ} → Stacks u (answers t (λ o. rule op o (length w))) cs cs' st st' → Stacks u (shows m w pc vs) cs cs' st st'
+    stacks {st} {st'} r = subst (λ (x : Showing). Stacks u x cs cs' st st') as-shown r
 
-    pub goes-stacks : {st : List ℕ} → Stacked cs st → Goes v (answers t (λ o. rule op o (length w))) cs cs' → Stacks v (shows m w pc vs) cs cs' st st
+    pub goes-stacks : {st : List ℕ} → Stacked cs st → Goes u (answers t (λ o. rule op o (length w))) cs cs' → Stacks u (shows m w pc vs) cs cs' st st
     goes-stacks {st} a r = stacks (record { cells = r .cells; deep = a .full; tells = λ b ps vs p. r .tells b ps vs st p })
 
-    pub moves : {ps ps' : List ℤ} → Moves v (answers t (λ o. rule op o (length w))) cs cs' ps ps' → Moves v (shows m w pc vs) cs cs' ps ps'
-    moves {ps} {ps'} r = subst (λ (x : Showing). Moves v x cs cs' ps ps') as-shown r
+    pub moves : {ps ps' : List ℤ} → Moves u (answers t (λ o. rule op o (length w))) cs cs' ps ps' → Moves u (shows m w pc vs) cs cs' ps ps'
+    moves {ps} {ps'} r = subst (λ (x : Showing). Moves u x cs cs' ps ps') as-shown r
 
-    pub goes-moves : {ps : List ℤ} → PointsFull ps → Goes v (answers t (λ o. rule op o (length w))) cs cs' → Moves v (shows m w pc vs) cs cs' ps ps
+    pub goes-moves : {ps : List ℤ} → PointsFull ps → Goes u (answers t (λ o. rule op o (length w))) cs cs' → Moves u (shows m w pc vs) cs cs' ps ps
     goes-moves {ps} a r = moves (record { cells = r .cells; points = a; tells = λ b vs st p. r .tells b ps vs st p })
 
-    pub draws : {ps ps' : List ℤ} {p' : List ℕ} → Draws v (answers t (λ o. rule op o (length w))) cs cs' ps ps' p' → Draws v (shows m w pc vs) cs cs' ps ps' p'
-    draws {ps} {ps'} {p'} r = subst (λ (x : Showing). Draws v x cs cs' ps ps' p') as-shown r
+    pub draws : {ps ps' : List ℤ} {p' : List ℕ} → Draws u (answers t (λ o. rule op o (length w))) cs cs' ps ps' p' → Draws u (shows m w pc vs) cs cs' ps ps' p'
+    draws {ps} {ps'} {p'} r = subst (λ (x : Showing). Draws u x cs cs' ps ps' p') as-shown r
 
-    pub paints-draws : {ps : List ℤ} {p p' : List ℕ} → Drawable cs ps p → Paints v (answers t (λ o. rule op o (length w))) cs cs' p' → Draws v (shows m w pc vs) cs cs' ps ps p'
+    pub paints-draws : {ps : List ℤ} {p p' : List ℕ} → Drawable cs ps p → Paints u (answers t (λ o. rule op o (length w))) cs cs' p' → Draws u (shows m w pc vs) cs cs' ps ps p'
     paints-draws {ps} a r = draws (record { cells = r .cells; points = a .points; brush = r .brush; tells = λ b vs st. r .tells b ps vs st })

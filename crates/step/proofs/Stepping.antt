@@ -1,5 +1,5 @@
 -- What a step may rely on, and what it leaves.
-use Prim.Native.Nat.{ℕ, suc, _+_, _<_, _≤_}
+use Prim.Native.Nat.{ℕ, _+_, _<_, _≤_}
 use mathlib.Core.Path.{_≡_, refl, sym, ap, _∙_}
 use mathlib.Core.Bool.{Bool, true, false, cond}
 use mathlib.Core.List.{List}
@@ -10,7 +10,7 @@ use lib.Dec.{ltb}
 use lib.IntN.{ℤ}
 use Rattle.numbers.specs.declared.place.WordIndex.{WordIndex}
 use Rattle.raster.specs.declared.frame.Bounds.{Bounds}
-use Rattle.player.specs.declared.Verdict.{Verdict}
+use Rattle.player.specs.declared.Upshot.{Upshot}
 use Rattle.player.specs.Player.{fault, Outcome, refused}
 use Rattle.player.specs.Shown.{shown}
 use Rattle.rules.specs.declared.opcode.Operands.{Operands}
@@ -28,7 +28,7 @@ use Rattle.fetch.specs.Stages.{Reaches, takenOf}
 use Rattle.fetch.proofs.Steps as Fetched
 use Rattle.act.specs.Lent.{celled, indexed, look}
 use Rattle.act.specs.Shown.{does, answers}
-use Rattle.act.specs.Contracts.{Drawable, Stacked, Sets, Stacks, Moves, Draws}
+use Rattle.act.specs.Contracts.{refusedHere, Drawable, Stacked, Sets, Stacks, Moves, Draws}
 use Rattle.step.specs.Steps.{shows, Able, Steps}
 
 -- a step is taken at pc: all is ready, and the list has a word there
@@ -38,9 +38,9 @@ pub record Here (w cs : List ℕ) (ps : List ℤ) (vs st p : List ℕ) (pc : ℕ
   pub inside : pc < length w
 
 module _ {w cs : List ℕ} {ps : List ℤ} {vs st p : List ℕ} where
-  -- refused with 2 + n where the opcode begins or was due, and all stays
-  refuses : Able w cs ps vs st p → (n : ℕ) {v : Verdict} → v ≡ fault (suc (suc n)) (celled cs .counter)
-      → ((b : Bounds) → step w (look b cs ps vs st) ≡ refused (fault (suc (suc n)) (celled cs .counter))) → Steps v w cs ps vs st cs ps vs st p
+  -- refused with n where the opcode begins or was due, and all stays
+  refuses : Able w cs ps vs st p → (n : ℕ) {u : Upshot} → u ≡ refusedHere n cs
+      → ((b : Bounds) → step w (look b cs ps vs st) ≡ refused (fault n (celled cs .counter))) → Steps u w cs ps vs st cs ps vs st p
   refuses r n told d =
       record {
         cells = r .cells;
@@ -50,9 +50,9 @@ module _ {w cs : List ℕ} {ps : List ℤ} {vs st p : List ℕ} where
         tells = λ b. rw told (sym (ap (λ (x : Outcome Env). shown x (look b cs ps vs st)) (d b)));
       }
 
-  pub step-20 : Able w cs ps vs st p → {pc : ℕ} → pc ≡ celled cs .counter .0 → length w ≤ pc → {v : Verdict} → v ≡ fault 20 (celled cs .counter)
-      → Steps v w cs ps vs st cs ps vs st p
-  step-20 r e l told = refuses r 18 told (λ b. Fetched.step-20 w (look b cs ps vs st) (rw (← e) l))
+  pub step-20 : Able w cs ps vs st p → {pc : ℕ} → pc ≡ celled cs .counter .0 → length w ≤ pc → {u : Upshot} → u ≡ refusedHere 20 cs
+      → Steps u w cs ps vs st cs ps vs st p
+  step-20 r e l told = refuses r 20 told (λ b. Fetched.step-20 w (look b cs ps vs st) (rw (← e) l))
 
   module _ {pc : ℕ} (h : Here w cs ps vs st p pc) where
     -- ---- what fetch and act ask
@@ -111,22 +111,22 @@ module _ {w cs : List ℕ} {ps : List ℤ} {vs st p : List ℕ} where
               go o next i false false = refl
 
       -- so a group's promise is the step's
-      module _ {v : Verdict} {cs' : List ℕ} where
-        pub step-sets : {vs' : List ℕ} → Sets v (shows m w pc vs) cs cs' vs vs' → Steps v w cs ps vs st cs' ps vs' st p
+      module _ {u : Upshot} {cs' : List ℕ} where
+        pub step-sets : {vs' : List ℕ} → Sets u (shows m w pc vs) cs cs' vs vs' → Steps u w cs ps vs st cs' ps vs' st p
         step-sets r =
             record { cells = r .cells; points = h .ready .points; full = h .ready .full; brush = h .ready .brush; tells = λ b. r .tells b ps st p ∙ is-step b p }
 
-        pub step-stacks : {st' : List ℕ} → Stacks v (shows m w pc vs) cs cs' st st' → Steps v w cs ps vs st cs' ps vs st' p
+        pub step-stacks : {st' : List ℕ} → Stacks u (shows m w pc vs) cs cs' st st' → Steps u w cs ps vs st cs' ps vs st' p
         step-stacks r =
             record { cells = r .cells; points = h .ready .points; full = r .deep; brush = h .ready .brush; tells = λ b. r .tells b ps vs p ∙ is-step b p }
 
-        pub step-moves : {ps' : List ℤ} → Moves v (shows m w pc vs) cs cs' ps ps' → Steps v w cs ps vs st cs' ps' vs st p
+        pub step-moves : {ps' : List ℤ} → Moves u (shows m w pc vs) cs cs' ps ps' → Steps u w cs ps vs st cs' ps' vs st p
         step-moves r =
             record { cells = r .cells; points = r .points; full = h .ready .full; brush = h .ready .brush; tells = λ b. r .tells b vs st p ∙ is-step b p }
 
-        pub step-draws : {ps' : List ℤ} {p' : List ℕ} → Draws v (shows m w pc vs) cs cs' ps ps' p' → Steps v w cs ps vs st cs' ps' vs st p'
+        pub step-draws : {ps' : List ℤ} {p' : List ℕ} → Draws u (shows m w pc vs) cs cs' ps ps' p' → Steps u w cs ps vs st cs' ps' vs st p'
         step-draws {p' = p'} r =
             record { cells = r .cells; points = r .points; full = h .ready .full; brush = r .brush; tells = λ b. r .tells b vs st ∙ is-step b p' }
 
-    pub step-21 : meaning (formOf (at w pc)) ≡ Unknown → {v : Verdict} → v ≡ fault 21 (celled cs .counter) → Steps v w cs ps vs st cs ps vs st p
-    step-21 k told = refuses (h .ready) 19 told (λ b. Fetched.step-21 w (look b cs ps vs st) inside (rw (h .counter) at k))
+    pub step-21 : meaning (formOf (at w pc)) ≡ Unknown → {u : Upshot} → u ≡ refusedHere 21 cs → Steps u w cs ps vs st cs ps vs st p
+    step-21 k told = refuses (h .ready) 21 told (λ b. Fetched.step-21 w (look b cs ps vs st) inside (rw (h .counter) at k))

@@ -6,7 +6,7 @@ use mathlib.Core.List.{List}
 use lib.ListN.{length}
 use lib.IntN.{ℤ}
 use Rattle.raster.specs.declared.frame.Bounds.{Bounds}
-use Rattle.player.specs.declared.Verdict.{Verdict}
+use Rattle.player.specs.declared.Upshot.{Upshot}
 use Rattle.player.specs.Player.{fault}
 use Rattle.player.specs.Shown.{shown, stayed}
 use Rattle.rules.specs.Meaning.{Meaning, Unknown, Known}
@@ -34,9 +34,9 @@ pub record Able (w cs : List ℕ) (ps : List ℤ) (vs st p : List ℕ) : Type 0 
   pub brush : Brushed p
 
 -- what came back from one opcode is what the rules say, with all that is lent before and after, whatever the size and the pane
-pub record Steps (v : Verdict) (w cs : List ℕ) (ps : List ℤ) (vs st cs' : List ℕ) (ps' : List ℤ) (vs' st' p' : List ℕ) : Type 0 where
+pub record Steps (u : Upshot) (w cs : List ℕ) (ps : List ℤ) (vs st cs' : List ℕ) (ps' : List ℤ) (vs' st' p' : List ℕ) : Type 0 where
   pub cells : CellsFull cs'
   pub points : PointsFull ps'
   pub full : length st' ≡ 16
   pub brush : Brushed p'
-  pub tells : (b : Bounds) → seen v (look b cs' ps' vs' st') p' ≡ shown (step w (look b cs ps vs st)) (look b cs ps vs st)
+  pub tells : (b : Bounds) → seen u (look b cs' ps' vs' st') p' ≡ shown (step w (look b cs ps vs st)) (look b cs ps vs st)

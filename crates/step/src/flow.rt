@@ -7,7 +7,7 @@ use fetch::source::plain;
 use fetch::source::variables;
 use fetch::source::word_long;
 use numbers::place::WordIndex;
-use player::Verdict;
+use player::Upshot;
 use rules::opcode::FlowForm;
 ghost use Rattle.rules.specs.Meaning as Meaning;
 ghost use Rattle.fetch.specs.Stages.{Reaches};
@@ -21,7 +21,7 @@ pub fn step(
     cells: &mut Cells,
     vars: &[u32; 64],
     stack: &mut Stack,
-) -> Verdict
+) -> Upshot
     requires { ⌜ Reaches (now words) (pc .0) 0 × Stacked (now cells) (now stack) ⌝ }
     ensures { λ q.
         ⌜ Stacks q (shows (Meaning.flow form) (now (words .entry)) (pc .0) (now (vars .entry)))

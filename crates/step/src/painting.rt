@@ -7,7 +7,7 @@ use fetch::source::plain;
 use fetch::source::variables;
 use fetch::source::word2_long;
 use numbers::place::WordIndex;
-use player::Verdict;
+use player::Upshot;
 use raster::brush::Brush;
 use rules::opcode::PaintForm;
 ghost use Rattle.rules.specs.Meaning as Meaning;
@@ -23,7 +23,7 @@ pub fn step(
     points: &mut Points,
     vars: &[u32; 64],
     brush: &mut Brush,
-) -> Verdict
+) -> Upshot
     requires { ⌜ Reaches (now words) (pc .0) 0 × Drawable (now cells) (now points) (now brush) ⌝ }
     ensures { λ q.
         ⌜ Draws q (shows (Meaning.paint form) (now (words .entry)) (pc .0) (now (vars .entry)))

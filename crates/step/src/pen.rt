@@ -6,7 +6,7 @@ use fetch::source::long;
 use fetch::source::plain;
 use fetch::source::variables;
 use numbers::place::WordIndex;
-use player::Verdict;
+use player::Upshot;
 use rules::opcode::PenForm;
 ghost use Rattle.rules.specs.Meaning as Meaning;
 ghost use Rattle.fetch.specs.Stages.{Reaches};
@@ -21,7 +21,7 @@ pub fn step(
     cells: &mut Cells,
     points: &mut Points,
     vars: &[u32; 64],
-) -> Verdict
+) -> Upshot
     requires { ⌜ Reaches (now words) (pc .0) 0 × CellsFull (now cells) × PointsFull (now points) ⌝ }
     ensures { λ q.
         ⌜ Moves q (shows (Meaning.pen form) (now (words .entry)) (pc .0) (now (vars .entry)))

@@ -6,7 +6,7 @@ use fetch::source::var;
 use fetch::source::var_var;
 use fetch::source::word_var;
 use numbers::place::WordIndex;
-use player::Verdict;
+use player::Upshot;
 use rules::opcode::ValueForm;
 ghost use Rattle.rules.specs.Meaning as Meaning;
 ghost use Rattle.fetch.specs.Stages.{Reaches};
@@ -20,7 +20,7 @@ pub fn step(
     pc: WordIndex,
     cells: &mut Cells,
     vars: &mut [u32; 64],
-) -> Verdict
+) -> Upshot
     requires { ⌜ Reaches (now words) (pc .0) 0 × CellsFull (now cells) ⌝ }
     ensures { λ q.
         ⌜ Sets q (shows (Meaning.value form) (now (words .entry)) (pc .0) (now (vars .entry)))

@@ -11,7 +11,7 @@ use lib.IntN.{ℤ}
 use Rattle.raster.specs.declared.frame.Bounds.{Bounds}
 use Rattle.player.specs.Run.{runs}
 use Rattle.player.specs.Shown.{marks, brushed}
-use Rattle.player.proofs.Turning.{painting, not-carried-out, Turned, turned-long, turned-painting, turned-quiet, rest, go-on, stop, used-up}
+use Rattle.player.proofs.Turning.{Turned, turned-long, painting, turned-painting, turned-quiet, not-carried-out, rest, go-on, stop, used-up}
 use Rattle.rules.specs.Environment.{frame}
 use Rattle.rules.specs.Step.{afgis}
 use Rattle.rules.proofs.Ranges.{parted}
@@ -59,42 +59,47 @@ step-requires c κs =
 
 returns-2 : tie.Need-returns-2 Inv-loop μ-loop
 returns-2 c =
-    let d = c .before .before .before .before in
+    let u = c .before .before .before in
+    let d = u .before .before in
     let f = d .before .before .before .before .before .before in
     let t = f .before .before .before in
     let i = t .before .loop in
-    let b = t .before .before .before .before .args .b in
+    let a = t .before .before .before .before .args in
+    let b = a .b in
     let z = d .step .last .1 in
+    let before = look b (i .cells) (i .points) (i .vars) (i .stack) in
     let after = look b (z .0) (z .1 .0) (z .1 .1 .0) (z .1 .1 .1 .0) in
-    let shows = not-carried-out frame after (z .1 .1 .1 .1 .0) (d .step .result) (c .before .before .if2 .taken) ∙ d .step .ensures .tells b in
-    let range = told-refusal _ (i .inv .ready .few) (look b (i .cells) (i .points) (i .vars) (i .stack)) (i .inv .ready .ranges) _ _ shows in
+    let shows = not-carried-out (afgis (a .words .now)) frame before (i .screen) after (z .1 .1 .1 .1 .0) (d .step .ensures .tells b) (u .upshot .given .1) in
+    let range = told-refusal _ (i .inv .ready .few) before (i .inv .ready .ranges) _ _ shows in
     stopped-left after _ (c .set-state .ensures .shows b (z .1 .0) (z .1 .1 .0) (z .1 .1 .1 .0)) range _ (i .steps)
-    ∙ stop _ _ (i .steps) _ (i .screen) _ (i .inv .same) _ _ (t .loop-test .taken) (running _ (parted (look b (i .cells) (i .points) (i .vars) (i .stack)) (i .inv .ready .ranges) .3) (sym (f .before .state .ensures) ∙ f .if1 .left)) shows
+    ∙ stop _ _ (i .steps) _ (i .screen) _ (i .inv .same) _ _ (t .loop-test .taken) (running _ (parted before (i .inv .ready .ranges) .3) (sym (f .before .state .ensures) ∙ f .if1 .left)) shows
 
 paint-requires : tie.Need-paint-requires Inv-loop μ-loop
 paint-requires c κs =
     let g = c .before in
     let y = g .before .before .before .before in
-    let d = y .before .before .before .before in
+    let d = y .before .before in
     let t = d .before .before .before .before .before .before .before .before .before in
     let i = t .before .loop in
-    let b = t .before .before .before .before .args .b in
+    let a = t .before .before .before .before .args in
+    let b = a .b in
     let z = d .step .last .1 in
     let p = z .1 .1 .1 .1 .0 in
+    let before = look b (i .cells) (i .points) (i .vars) (i .stack) in
     let after = look b (z .0) (z .1 .0) (z .1 .1 .0) (z .1 .1 .1 .0) in
-    let shows = painting frame after p (d .step .result) (y .if3 .taken) ∙ d .step .ensures .tells b in
-    let ranges = leaves-fits _ (i .inv .ready .few) (look b (i .cells) (i .points) (i .vars) (i .stack)) (i .inv .ready .ranges) _ (marks (brushed (frame after) p)) shows in
+    let shows = painting (afgis (a .words .now)) frame before (i .screen) after p (d .step .ensures .tells b) (y .enum-told2 .given .1) in
+    let ranges = leaves-fits _ (i .inv .ready .few) before (i .inv .ready .ranges) _ (marks (brushed (frame after) p)) shows in
     (may-draw after (i .screen) (g .frame .ensures (z .1 .1 .0) (z .1 .1 .1 .0)) (i .inv .ready .size) ranges (i .inv .ready .area), d .step .ensures .brush .1)
 
-turned : (c : tie.Joined3 Inv-loop μ-loop) →
-    let d = c .before .before .before .before in
+turned : (c : tie.At-match-came Inv-loop μ-loop) →
+    let d = c .before in
     let t = d .before .before .before .before .before .before .before .before .before in
     let i = t .before .loop in
     let g = t .before .before .before .before .args in
     let z = d .step .last .1 in
-    Turned (afgis (g .words .now)) (look (g .b) (i .cells) (i .points) (i .vars) (i .stack)) (i .screen) (look (g .b) (z .0) (z .1 .0) (z .1 .1 .0) (z .1 .1 .1 .0)) (c .if3 .screen)
+    Turned (afgis (g .words .now)) (look (g .b) (i .cells) (i .points) (i .vars) (i .stack)) (i .screen) (look (g .b) (z .0) (z .1 .0) (z .1 .1 .0) (z .1 .1 .1 .0)) (c .match .screen)
 turned c =
-    let d = c .before .before .before .before in
+    let d = c .before in
     let t = d .before .before .before .before .before .before .before .before .before in
     let i = t .before .loop in
     let g = t .before .before .before .before .args in
@@ -103,20 +108,20 @@ turned c =
     let after = look (g .b) (z .0) (z .1 .0) (z .1 .1 .0) (z .1 .1 .1 .0) in
     let told = d .step .ensures .tells (g .b) in
     ⊎-elim
+    (λ w. turned-quiet (afgis (g .words .now)) frame before (i .screen) after (z .1 .1 .1 .1 .0) told (w .1 .given .1) (w .2))
     (λ w.
-    turned-painting (afgis (g .words .now)) frame before (i .screen) (d .step .result) after (z .1 .1 .1 .1 .0) told (w .0 .taken) (w .4 .ensures (z .1 .1 .0) (z .1 .1 .1 .0))
-    (w .9 ∙ w .6 .ensures))
-    (λ w. turned-quiet (afgis (g .words .now)) frame before (i .screen) (d .step .result) after (z .1 .1 .1 .1 .0) told (c .before .before .if2 .left) (w .0 .left) (w .1))
-    (c .if3 .came)
+    turned-painting (afgis (g .words .now)) frame before (i .screen) after (z .1 .1 .1 .1 .0) told (w .1 .given .1) (w .5 .ensures (z .1 .1 .0) (z .1 .1 .1 .0))
+    (w .10 ∙ w .7 .ensures))
+    (c .match .came)
 
 add-steps : tie.Need-add-steps Inv-loop μ-loop
 add-steps c =
-    let t = c .before .before .before .before .before .before .before .before .before .before .before .before .before in
+    let t = c .before .before .before .before .before .before .before .before .before .before in
     omega (arith, t .loop-test .taken, t .before .before .before .before .fits .budget)
 
 loop-again : tie.Need-loop-again Inv-loop μ-loop
 loop-again c =
-    let d = c .before .before .before .before in
+    let d = c .before in
     let f = d .before .before .before .before .before .before in
     let t = f .before .before .before in
     let i = t .before .loop in
@@ -148,11 +153,14 @@ turns-spec =
     (λ c. c .before .before .before .before .loop .inv .as-long)
     returns
     step-requires
-    (λ c κs. c .before .before .before .step .ensures .cells)
-    (λ c. c .before .before .before .before .before .before .before .before .before .before .before .before .before .before .loop .inv .as-long)
-    returns-2
+    (λ c. search needs)
+    (λ c. search needs)
     (λ c κs. search needs)
     paint-requires
+    (λ c. search needs)
+    (λ c κs. c .before .before .before .before .step .ensures .cells)
+    (λ c. c .before .before .before .before .before .before .before .before .before .before .before .before .before .before .before .loop .inv .as-long)
+    returns-2
     add-steps
     (λ c. omega arith)
     loop-again
