@@ -14,6 +14,8 @@ use rules::environment::Registers;
 
 pub fn print_answer(answer: Answer) {
     count(b"answer ", answer.number as usize);
+    let place = answer.place;
+    unsigned(b" place ", place.0);
     unsigned(b" steps ", answer.steps);
     end_line();
     let env = answer.env;
@@ -46,6 +48,8 @@ fn print_registers(registers: Registers) {
     signed(b" ", registers.second);
     end_line();
     count(b"state ", registers.state as usize);
+    let place = registers.place;
+    unsigned(b" place ", place.0);
     let counter = registers.counter;
     unsigned(b" counter ", counter.0);
     unsigned(b" depth ", registers.depth);

@@ -47,6 +47,7 @@ pub enum Register {
     Second,
     Counter,
     Depth,
+    Place,
     Colour,
     State,
 }
@@ -56,7 +57,7 @@ pub fn field_of(name: &[u8]) -> Found
     ensures { λ r. ⌜ r ≡ fieldOf (now (name .entry)) ⌝ }
 {
     let names =
-        b"width height left top right bottom x y x0 y0 x1 y1 mode first second counter depth colour state";
+        b"width height left top right bottom x y x0 y0 x1 y1 mode first second counter depth place colour state";
     match place_in(names, name) {
         0 => Found::Is(Field::Bound(Bound::Width)),
         1 => Found::Is(Field::Bound(Bound::Height)),
@@ -75,8 +76,9 @@ pub fn field_of(name: &[u8]) -> Found
         14 => Found::Is(Field::Register(Register::Second)),
         15 => Found::Is(Field::Register(Register::Counter)),
         16 => Found::Is(Field::Register(Register::Depth)),
-        17 => Found::Is(Field::Register(Register::Colour)),
-        18 => Found::Is(Field::Register(Register::State)),
+        17 => Found::Is(Field::Register(Register::Place)),
+        18 => Found::Is(Field::Register(Register::Colour)),
+        19 => Found::Is(Field::Register(Register::State)),
         _ => Found::Nothing,
     }
 }
@@ -108,6 +110,7 @@ fn kind_of_register(register: Register) -> Kind
         Register::Second => Kind::Signed,
         Register::Counter => Kind::Unsigned,
         Register::Depth => Kind::Unsigned,
+        Register::Place => Kind::Unsigned,
         Register::Colour => Kind::Byte,
         Register::State => Kind::Byte,
     }

@@ -196,6 +196,7 @@ fn with_register(registers: Registers, register: Register, bits: u32) -> Registe
         Register::Second => after.second = bits,
         Register::Counter => after.counter = index,
         Register::Depth => after.depth = bits,
+        Register::Place => after.place = index,
         Register::Colour => after.colour = byte,
         Register::State => after.state = byte,
     }
