@@ -1,8 +1,10 @@
 // Plays lists on a screen of zeros: the picture goes to standard output, a line for each list to standard error, and how it
 // ended to descriptor 3.
+mod digits; // numbers on standard error
 mod end; // how it ended
 mod output; // writes the picture
 mod page; // the lists of a page
+mod place; // where a list was stopped
 mod report; // a line for each list
 mod slices; // runs the lists of a page in turn
 

@@ -1,16 +1,18 @@
 // The lines on standard error.
+use crate::digits::decimal;
+use crate::digits::index;
 use crate::end::Ends;
 use crate::end::none_yet;
 use crate::end::with_number;
 use crate::page::PLACES;
 use crate::page::Page;
 use crate::page::Playing;
+use crate::place::tell_place;
 use errand::say::say;
 use errand::span::Span;
 use errand::span::bytes_of;
 use errand::span::words_of;
-use libc::STDERR_FILENO;
-use text::hexadecimal::digits_of;
+use wording::Words;
 use wording::words_for;
 
 // The number that a list is refused with, and what it means.
@@ -41,53 +43,30 @@ pub fn report(names: &[u8], words: &[u16], page: Page) -> Ends {
 
 fn line(name: &[u8], list: &[u16], playing: Playing) {
     let counter = playing.env.registers.counter.0;
-    tell(name, playing.number);
-    if playing.number == 21 {
-        tell_word(list, counter);
+    let number = playing.number;
+    tell(name, number);
+    if 20 <= number {
+        tell_place(list, number, counter, playing.env.registers.place.0);
     }
     say(b": steps ");
     decimal(playing.steps);
     say(b", counter ");
-    tell_index(counter);
-    say(b"\n");
-}
-
-fn decimal(n: u32) {
-    io::print_decimal(STDERR_FILENO, n as u64);
-}
-
-fn hexadecimal(word: u16) {
-    let digits = digits_of(word);
-    say(&digits);
-}
-
-// The word that is no opcode.
-fn tell_word(list: &[u16], index: u32) {
-    let at = index as usize;
-    if at < list.len() {
-        say(b": ");
-        hexadecimal(list[at]);
-    }
-}
-
-// A word index, 0 to 65,536, as sources have it, and in decimal.
-fn tell_index(index: u32) {
-    if 65535 < index {
-        say(b"1");
-    }
-    hexadecimal((index % 65536) as u16);
+    index(counter);
     say(b" (");
-    decimal(index);
-    say(b")");
+    decimal(counter);
+    say(b")\n");
 }
 
 // NAME: NUMBER, what it means.
 fn tell(name: &[u8], number: u8) {
     say(name);
     say(b": ");
-    io::print_decimal(STDERR_FILENO, number as u64);
+    decimal(number as u32);
     say(b", ");
-    let words = words_for(number);
+    say_words(words_for(number));
+}
+
+pub fn say_words(words: Words) {
     let to = words.length as usize;
     let text = words.text;
     say(bytes_of(&text, Span { from: 0, to }));

@@ -76,7 +76,7 @@ fn told(number: u8, line: u8, words: &[u8]) -> Words
 }
 
 // The words, and zeros behind them.
-fn padded(words: &[u8]) -> Words
+pub fn padded(words: &[u8]) -> Words
     requires { ⌜ length (now words) < 95 ⌝ }
     ensures { λ r. ⌜ r ≡ wordsOf (now (words .entry)) ⌝ }
 {
