@@ -1,6 +1,6 @@
 /*
- * AFGIS display lists by document 01, in plain C. The sections follow that paper's; a sentence in
- * quotation marks is the paper's own. The condition numbers and RTRN's number come from document 004.
+ * AFGIS display lists by documents 01 and 02, in plain C. The sections follow 01's; a sentence in
+ * quotation marks is one of these papers' own. The condition numbers and RTRN's number come from document 004.
  */
 
 #include "afgis.h"
@@ -41,6 +41,7 @@ struct machine {
     size_t words;
     uint8_t *screen;
     struct afgis_env *env;
+    uint32_t misnamed;  /* with 23: how far behind the opcode word the operand word at fault is */
 };
 
 static int is_between(int64_t value, int64_t low, int64_t high)
@@ -76,9 +77,20 @@ static int stack_is_good(const struct afgis_env *env)
     return 1;
 }
 
+static int is_stopped(uint8_t state)
+{
+    return is_between(state, PAST_END, STACK_EMPTY);
+}
+
 static int state_is_good(uint8_t state)
 {
-    return state == STATE_RUNNING || state == STATE_ENDED || is_between(state, PAST_END, STACK_EMPTY);
+    return state == STATE_RUNNING || state == STATE_ENDED || is_stopped(state);
+}
+
+/* "A stopped environment keeps the place (0 to 65,536, else 12)"; any other has none to keep. */
+static int place_is_good(const struct afgis_env *env)
+{
+    return is_stopped(env->state) ? env->place <= MOST_WORDS : env->place == 0;
 }
 
 static int fields_are_good(const struct afgis_env *env)
@@ -89,7 +101,8 @@ static int fields_are_good(const struct afgis_env *env)
         && fits_word(env->x0) && fits_word(env->y0) && fits_word(env->x1) && fits_word(env->y1)
         && env->counter <= MOST_WORDS
         && stack_is_good(env)
-        && state_is_good(env->state);
+        && state_is_good(env->state)
+        && place_is_good(env);
 }
 
 int afgis_fresh(uint32_t width, uint32_t height, uint32_t left, uint32_t top, uint32_t right, uint32_t bottom,
@@ -224,13 +237,20 @@ static int done(struct machine *m, uint32_t length)
     return DONE;
 }
 
+/* "The first operand word naming a variable above 63 or a Vi whose followers go past it" is this far behind the opcode word. */
+static int no_variable(struct machine *m, uint32_t distance_in_words)
+{
+    m->misnamed = distance_in_words;
+    return NO_VARIABLE;
+}
+
 /* A V form: its values are those of Vi and its followers. */
-static int read_variables(const struct machine *m, uint32_t count, int32_t *values)
+static int read_variables(struct machine *m, uint32_t count, int32_t *values)
 {
     if (is_cut(m, 2))
         return CUT;
     if (!is_variable(word_at(m, 1) + count - 1))
-        return NO_VARIABLE;
+        return no_variable(m, 1);
     for (uint32_t i = 0; i < count; i++)
         values[i] = m->env->variables[word_at(m, 1) + i];
     return DONE;
@@ -296,7 +316,7 @@ static int long_form(struct machine *m, enum calculation calculation)
     if (is_cut(m, 4))
         return CUT;
     if (!is_variable(word_at(m, 3)))
-        return NO_VARIABLE;
+        return no_variable(m, 3);
     return calculate(m, 4, calculation, low_32_bits(long_at(m, 1)), word_at(m, 3));
 }
 
@@ -305,8 +325,10 @@ static int variable_form(struct machine *m, enum calculation calculation)
 {
     if (is_cut(m, 3))
         return CUT;
-    if (!is_variable(word_at(m, 1)) || !is_variable(word_at(m, 2)))
-        return NO_VARIABLE;
+    if (!is_variable(word_at(m, 1)))
+        return no_variable(m, 1);
+    if (!is_variable(word_at(m, 2)))
+        return no_variable(m, 2);
     return calculate(m, 3, calculation, m->env->variables[word_at(m, 1)], word_at(m, 2));
 }
 
@@ -316,7 +338,7 @@ static int load_word(struct machine *m)
     if (is_cut(m, 3))
         return CUT;
     if (!is_variable(word_at(m, 2)))
-        return NO_VARIABLE;
+        return no_variable(m, 2);
     return calculate(m, 3, LOAD, signed_word_at(m, 1), word_at(m, 2));
 }
 
@@ -326,7 +348,7 @@ static int count_by(struct machine *m, int32_t by)
     if (is_cut(m, 2))
         return CUT;
     if (!is_variable(word_at(m, 1)))
-        return NO_VARIABLE;
+        return no_variable(m, 1);
     return calculate(m, 2, ADD, by, word_at(m, 1));
 }
 
@@ -798,10 +820,17 @@ static int number_of_state(uint8_t state)
     return state == STATE_ENDED ? ENDED : state;
 }
 
+/* "The word index at fault": for 23 the operand's, "for the others the index where the opcode begins or, for 20, was due". */
+static void stop(struct machine *m, int refusal)
+{
+    m->env->state = (uint8_t)refusal;
+    m->env->place = m->env->counter + (refusal == NO_VARIABLE ? m->misnamed : 0);
+}
+
 /* "Then, before each opcode, the budget." */
 static struct afgis_answer run_from_here(struct machine *m, uint32_t budget)
 {
-    struct afgis_answer answer = { 0, 0 };
+    struct afgis_answer answer = { 0, 0, 0 };
 
     while (m->env->state == STATE_RUNNING) {
         if (answer.steps == budget) {
@@ -812,17 +841,18 @@ static struct afgis_answer run_from_here(struct machine *m, uint32_t budget)
         if (refusal == DONE)
             answer.steps++;
         else
-            m->env->state = (uint8_t)refusal;
+            stop(m, refusal);
     }
     answer.number = number_of_state(m->env->state);
+    answer.place = m->env->place;
     return answer;
 }
 
 struct afgis_answer afgis_run(const uint16_t *list, size_t words, uint8_t *screen, size_t bytes,
                               struct afgis_env *env, uint32_t budget)
 {
-    struct machine m = { list, words, screen, env };
-    struct afgis_answer refused = { door(env, words, bytes, budget), 0 };
+    struct machine m = { list, words, screen, env, 0 };
+    struct afgis_answer refused = { door(env, words, bytes, budget), 0, 0 };
 
     return refused.number != 0 ? refused : run_from_here(&m, budget);
 }

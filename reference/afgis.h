@@ -1,4 +1,4 @@
-/* AFGIS display lists by document 01, in plain C: the second program, written from the papers alone. */
+/* AFGIS display lists by documents 01 and 02, in plain C: the second program, written from the papers alone. */
 #ifndef AFGIS_H
 #define AFGIS_H
 
@@ -19,10 +19,12 @@ struct afgis_env {
     uint32_t depth;                     /* how many return indices are stacked, 0 to 16 */
     uint32_t stack[16];                 /* those below depth: each 0 to 65,536 */
     uint8_t state;                      /* 0 running, 1 ended, 20 to 29 stopped with that number */
+    uint32_t place;                     /* stopped: "the word index at fault", 0 to 65,536; else 0 */
 };
 
 struct afgis_answer {
     int number;
+    uint32_t place;                     /* 20 to 29: "the word index at fault"; "all other numbers carry 0" */
     uint32_t steps;
 };
 

@@ -30,7 +30,7 @@ static void show_smallest(const struct call *call)
 void check_call(const struct call *call, struct verdict *verdict)
 {
     judge(call, verdict);
-    count_call(call, verdict->box.number);
+    count_call(call, verdict->box.number, verdict->box.place);
     if (verdict->difference != NULL && is_shown()) {
         show_smallest(call);
         judge(call, verdict);

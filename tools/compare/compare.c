@@ -64,23 +64,27 @@ static int is_inside(const struct ovenlute_pane *pane, uint32_t x, uint32_t y)
     return pane->left <= x && x <= pane->right && pane->top <= y && y <= pane->bottom;
 }
 
-/* One call by one side, on both screens: number, steps and environment must be the same. */
+/* The same number, place and steps. */
+static int same_told(const struct outcome *a, const struct outcome *b)
+{
+    return a->number == b->number && a->place == b->place && a->steps == b->steps;
+}
+
+/* One call by one side, on both screens: what is told and the environment must be the same. */
 static int step_side(struct side *side, struct side *other, uint32_t budget)
 {
     struct verdict verdict;
-    int number;
-    uint32_t steps;
+    struct outcome mixed;
 
     set_slice(&side->mixed, budget);
     set_slice(&side->alone, budget);
     check_call(&side->mixed, &verdict);
-    number = verdict.box.number;
-    steps = verdict.box.steps;
+    mixed = verdict.box;
     go_on(&side->mixed, &verdict);
     memcpy(other->mixed.screen, side->mixed.screen, side->mixed.bytes);
     check_call(&side->alone, &verdict);
     go_on(&side->alone, &verdict);
-    return number == verdict.box.number && steps == verdict.box.steps && same_env(&side->mixed.env, &side->alone.env);
+    return same_told(&mixed, &verdict.box) && same_env(&side->mixed.env, &side->alone.env);
 }
 
 /* In one pane only: as that side alone left it. In none: as before. In both: either may have painted last. */
@@ -146,8 +150,9 @@ static void check_huge_call(const struct call *call, uint8_t *room, size_t words
 
     to_reference(&call->env, &reference_env);
     answer = afgis_run(list, words, screen, bytes, &reference_env, call->budget);
-    count_call(call, done.number);
-    is_right = done.number == number && done.steps == 0 && same_env(&env, &call->env) && answer.number == number;
+    count_call(call, done.number, done.place);
+    is_right = done.number == number && done.place == 0 && done.steps == 0 && same_env(&env, &call->env)
+        && answer.number == number && answer.place == 0;
     if (!is_right && is_shown())
         printf("difference: %llu words and %llu bytes: box %d, reference %d, wanted %d\n", (unsigned long long)words,
                (unsigned long long)bytes, done.number, answer.number, number);

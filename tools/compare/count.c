@@ -3,6 +3,7 @@
 #include "forms.h"
 #include "libc.h"
 #include "lines.h"
+#include "places.h"
 
 enum { MOST_MEMBERS = 20, STEPS_FOLLOWED = 200 };
 
@@ -13,10 +14,11 @@ static const struct {
     [CALLS] = { "calls", { "whole", "slice", "larger budget", "two panes mixed", "one pane alone" } },
     [LISTS] = { "lists", { "empty", "each opcode word", "random words", "valid opcodes", "one word damaged", "loops",
                            "endless loops", "calls near the limits", "longest", "too long", "2^32 words too long",
-                           "two refusals at once" } },
+                           "two refusals at once", "a variable above 63" } },
     [ENVIRONMENTS] = { "environments", { "fresh", "mid-run", "continued", "stopped", "ended", "broken" } },
     [BROKEN_FIELDS] = { "broken fields", { "width", "height", "left", "top", "right", "bottom", "x", "y", "x0", "y0",
-                                           "x1", "y1", "mode", "counter", "depth", "stack", "state" } },
+                                           "x1", "y1", "mode", "counter", "depth", "stack", "state", "place where stopped",
+                                           "place where not" } },
     [SIZES] = { "screen sizes", { "one dot", "small", "middle", "a side of 2048", "2048 x 2048" } },
     [PANES] = { "panes", { "whole screen", "part", "one row or column", "one dot" } },
     [WINDOWS] = { "windows", { "whole screen", "part", "one dot", "empty", "outside", "widest", "any words" } },
@@ -33,6 +35,10 @@ static const struct {
     [FRESH_CALLS] = { "fresh", { "good", "bad size", "bad pane", "both bad" } },
     [NUMBERS] = { "numbers", { "0", "1", "10", "11", "12", "13", "14", "20", "21", "22", "23", "24", "25", "26", "27",
                                "28", "29" } },
+    [PLACES] = { "places of 20 to 29", { "0", "1 to 65534", "65535", "65536" } },
+    [MISNAMED] = { "23 at", { "V", "Vs", "Vd", "Vs before Vd", "Vd behind a word", "Vd behind a long", "Vi", "Vi of 2",
+                              "Vi of 3", "Vi of 4", "Vi of 5", "a follower of 2", "a follower of 3",
+                              "a follower of 4", "a follower of 5" } },
     [CLEARINGS] = { "CLRWIN", { "whole screen", "whole rows", "parts of rows", "no column", "no row" } },
     [LINES] = { "lines", { "x ahead rising", "x ahead level", "x ahead falling", "x back rising", "x back level",
                            "x back falling", "y ahead rising", "y ahead level", "y ahead falling", "y back rising",
@@ -53,6 +59,11 @@ void count_kind(enum group group, int member)
     kinds_met[group][member]++;
 }
 
+static int is_refusal(int number)
+{
+    return number >= 20 && number <= 29;
+}
+
 /* A number that the paper doesn't know is no kind; it will be a difference. */
 static void count_number(int number)
 {
@@ -60,7 +71,7 @@ static void count_number(int number)
         count_kind(NUMBERS, number);
     else if (number >= 10 && number <= 14)
         count_kind(NUMBERS, number - 10 + 2);
-    else if (number >= 20 && number <= 29)
+    else if (is_refusal(number))
         count_kind(NUMBERS, number - 20 + 7);
 }
 
@@ -101,7 +112,7 @@ static void count_forms(const struct call *call)
 {
     static uint8_t scratch[SCREEN_ROOM];
     struct afgis_env env, before;
-    struct afgis_answer answer = { 1, 1 };
+    struct afgis_answer answer = { 1, 0, 1 };
 
     to_reference(&call->env, &env);
     for (uint32_t step = 0; answer.number == 1 && step < call->budget && step < STEPS_FOLLOWED; step++) {
@@ -111,17 +122,21 @@ static void count_forms(const struct call *call)
             count_form(call->list[before.counter], answer);
             count_clearing(call->list[before.counter], answer, &env);
         }
+        if (answer.number == 23)
+            count_misnamed(call->list + before.counter);
         if (answer.steps == 1)
             count_line(call->list + before.counter, &before, &env);
     }
 }
 
-void count_call(const struct call *call, int number)
+void count_call(const struct call *call, int number, uint32_t place)
 {
     for (enum group group = 0; group < GROUPS; group++)
         if (call->kinds[group] != NOT_OF_A_KIND)
             count_kind(group, call->kinds[group]);
     count_number(number);
+    if (is_refusal(number))
+        count_place(place);
     if ((number < 10 || number >= 20) && call->env.registers.state == RUNNING)
         count_forms(call);
 }

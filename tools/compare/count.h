@@ -7,8 +7,8 @@
 /* One more member of a group. */
 void count_kind(enum group group, int member);
 
-/* All kinds of a call, the number that it came back with, and the forms on its way. */
-void count_call(const struct call *call, int number);
+/* All kinds of a call, the number and the place that it came back with, and the forms on its way. */
+void count_call(const struct call *call, int number, uint32_t place);
 
 /* How many calls there were. */
 uint64_t calls_counted(void);

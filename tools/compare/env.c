@@ -25,6 +25,7 @@ static const struct {
     [SECOND] = { "second", offsetof(struct ovenlute_env, registers.second), SIGNED_32 },
     [COUNTER] = { "counter", offsetof(struct ovenlute_env, registers.counter), UNSIGNED_32 },
     [DEPTH] = { "depth", offsetof(struct ovenlute_env, registers.depth), UNSIGNED_32 },
+    [PLACE] = { "place", offsetof(struct ovenlute_env, registers.place), UNSIGNED_32 },
     [COLOUR] = { "colour", offsetof(struct ovenlute_env, registers.colour), UNSIGNED_8 },
     [STATE] = { "state", offsetof(struct ovenlute_env, registers.state), UNSIGNED_8 },
 };
@@ -112,6 +113,7 @@ void to_reference(const struct ovenlute_env *from, struct afgis_env *to)
     to->counter = registers->counter;
     to->depth = registers->depth;
     to->state = registers->state;
+    to->place = registers->place;
     memcpy(to->variables, from->variables, sizeof to->variables);
     memcpy(to->stack, from->stack, sizeof to->stack);
 }
@@ -139,6 +141,7 @@ void from_reference(const struct afgis_env *from, struct ovenlute_env *to)
     registers->counter = from->counter;
     registers->depth = from->depth;
     registers->state = from->state;
+    registers->place = from->place;
     memcpy(to->variables, from->variables, sizeof to->variables);
     memcpy(to->stack, from->stack, sizeof to->stack);
 }

@@ -33,6 +33,7 @@ static void run_box(const struct call *call, struct outcome *outcome)
     outcome->env = call->env;
     done = ovenlute_run(box_list, call->words, screen, call->bytes, &outcome->env, call->budget);
     outcome->number = done.number;
+    outcome->place = done.place;
     outcome->steps = done.steps;
     outcome->screen = screen;
 }
@@ -47,6 +48,7 @@ static void run_reference(const struct call *call, struct outcome *outcome)
     answer = afgis_run(call->list, call->words, screen, call->bytes, &env, call->budget);
     from_reference(&env, &outcome->env);
     outcome->number = answer.number;
+    outcome->place = answer.place;
     outcome->steps = answer.steps;
     outcome->screen = screen;
 }
@@ -67,6 +69,8 @@ static const char *difference(const struct call *call, const struct outcome *box
 {
     if (box->number != reference->number)
         return "the number";
+    if (box->place != reference->place)
+        return "the place";
     if (box->steps != reference->steps)
         return "the steps";
     if (!same_env(&box->env, &reference->env))

@@ -7,6 +7,7 @@
 
 struct outcome {
     int number;
+    uint32_t place;
     uint32_t steps;
     struct ovenlute_env env;
     const uint8_t *screen;  /* as many bytes as the call has; kept until the next call is judged */

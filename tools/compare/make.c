@@ -161,6 +161,8 @@ void make_call(struct call *call)
         make_door_refusal(call, between(10, 14));
     else if (one_in(8))
         make_two_refusals(call);
+    else if (one_in(16))
+        make_misnamed(call);
     fill_screen(call);
 }
 

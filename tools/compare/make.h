@@ -52,4 +52,7 @@ void make_list_of_word(struct call *call, uint16_t word);
 /* A list that meets two refusals at once, and the environment for it; sets budget and expectation. */
 void make_two_refusals(struct call *call);
 
+/* A list whose last opcode names or implies a variable above 63, at one of its operands or at both; as above. */
+void make_misnamed(struct call *call);
+
 #endif

@@ -174,6 +174,12 @@ static int make_state(int kind)
     return kind == ENV_STOPPED ? between(20, 29) : RUNNING;
 }
 
+/* Where a stopped environment was stopped: anywhere, and often at an end of what is allowed. */
+static uint32_t make_place(void)
+{
+    return one_in(4) ? MOST_WORDS - below(2) : below(one_in(2) ? 2 : MOST_WORDS + 1);
+}
+
 static void make_registers(struct call *call, int is_far)
 {
     struct ovenlute_env *env = &call->env;
@@ -189,6 +195,8 @@ static void make_registers(struct call *call, int is_far)
     registers->second = one_in(4) ? edge_value() : between(-2, 2);
     registers->colour = (uint8_t)random_bits();
     registers->state = (uint8_t)make_state(call->kinds[ENVIRONMENTS]);
+    if (call->kinds[ENVIRONMENTS] == ENV_STOPPED)
+        registers->place = make_place();
     for (int i = 0; i < VARIABLES; i++)
         env->variables[i] = make_variable(env, is_far);
     for (int i = 0; i < RETURNS; i++)
@@ -287,6 +295,13 @@ static void break_stack(struct ovenlute_env *env)
     env->stack[below(env->registers.depth)] = bad_index();
 }
 
+/* A place past the longest list, or one where there is none to keep. */
+static void break_place(struct ovenlute_registers *registers, int is_stopped)
+{
+    registers->state = (uint8_t)(is_stopped ? between(20, 29) : between(RUNNING, HAS_ENDED));
+    registers->place = is_stopped || one_in(2) ? bad_index() : 1 + below(MOST_WORDS);
+}
+
 void break_size(struct call *call)
 {
     struct ovenlute_bounds *bounds = &call->env.bounds;
@@ -321,7 +336,7 @@ static void break_pane(struct ovenlute_bounds *bounds, int side)
 void break_field(struct call *call)
 {
     struct ovenlute_env *env = &call->env;
-    int member = between(2, 16);
+    int member = between(2, 18);
 
     call->kinds[ENVIRONMENTS] = ENV_BROKEN;
     call->kinds[BROKEN_FIELDS] = member;
@@ -337,8 +352,10 @@ void break_field(struct call *call)
         env->registers.depth = bad_depth();
     else if (member == 15)
         break_stack(env);
-    else
+    else if (member == 16)
         env->registers.state = (uint8_t)bad_state();
+    else
+        break_place(&env->registers, member == 17);
 }
 
 /* ---- fresh environments and two panes ---- */

@@ -1,5 +1,7 @@
-/* Lists whose last opcode meets two refusals at once: the lower number must come back. */
+/* Lists whose last opcode meets two refusals at once, of which the lower number must come back; and lists whose last one
+   meets 23 at any of its operands. */
 
+#include "forms.h"
 #include "libc.h"
 #include "make.h"
 #include "random.h"
@@ -247,22 +249,86 @@ static const struct {
     { 24, make_24_25 }, { 24, make_24_27 }, { 27, make_27_28 },
 };
 
-void make_two_refusals(struct call *call)
+/* Some opcodes that do nothing, before the one that is to be refused; returns how many. */
+static uint32_t start_list(struct call *call, int kind)
 {
-    uint32_t pair = below(sizeof pairs / sizeof pairs[0]);
     uint32_t steps_before = below(4);
 
     call->env.registers.state = RUNNING;
+    call->env.registers.place = 0;
     call->env.registers.counter = 0;
     call->env.registers.depth = 0;
+    call->kinds[LISTS] = kind;
+    call->kinds[ENVIRONMENTS] = ENV_MID_RUN;
     call->words = 0;
     for (uint32_t i = 0; i < steps_before; i++)
         put(call, 0x0000);
-    pairs[pair].make(call);
+    return steps_before;
+}
+
+/* The refusal is met, or waits behind the last allowed step. */
+static void expect(struct call *call, uint32_t steps_before, int number)
+{
     call->budget = one_in(4) ? steps_before : steps_before + 1 + below(20);
-    call->expected = call->budget == steps_before ? 1 : pairs[pair].lower;
-    call->kinds[LISTS] = LIST_TWO_REFUSALS;
-    call->kinds[ENVIRONMENTS] = ENV_MID_RUN;
-    call->kinds[OPCODE_PAIRS] = (int)pair;
+    call->expected = call->budget == steps_before ? 1 : number;
     call->kinds[BUDGETS] = call->budget == steps_before ? BUDGET_BEFORE_REFUSAL : BUDGET_ENOUGH;
+}
+
+void make_two_refusals(struct call *call)
+{
+    uint32_t pair = below(sizeof pairs / sizeof pairs[0]);
+    uint32_t steps_before = start_list(call, LIST_TWO_REFUSALS);
+
+    pairs[pair].make(call);
+    expect(call, steps_before, pairs[pair].lower);
+    call->kinds[OPCODE_PAIRS] = (int)pair;
+}
+
+/* ---- 23 at any operand ---- */
+
+/* Vi above 63, or one of which only the last follower is. */
+static int32_t bad_first(const struct form *form)
+{
+    int32_t followers = (int32_t)strlen(form->implied) - 1;
+
+    return followers > 0 && one_in(2) ? 64 - followers + between(0, followers - 1) : bad_variable();
+}
+
+/* A word, or a long's two: a variable's number would be wrong in most of them. */
+static void put_value(struct call *call, char operand)
+{
+    put(call, bad_variable());
+    if (operand == 'l')
+        put(call, bad_variable());
+}
+
+/* Both variables of a pair may be wrong, or either. */
+static void put_misnamed(struct call *call, const struct form *form)
+{
+    uint32_t wrong = 1 + below(3);
+
+    put(call, form->opcode);
+    if (form->operands[0] == 'i') {
+        put(call, bad_first(form));
+    } else if (form->operands[1] == 0) {
+        put(call, bad_variable());
+    } else if (form->operands[0] == 'v') {
+        put(call, wrong & 1 ? bad_variable() : between(0, 63));
+        put(call, wrong & 2 ? bad_variable() : between(0, 63));
+    } else {
+        put_value(call, form->operands[0]);
+        put(call, bad_variable());
+    }
+}
+
+void make_misnamed(struct call *call)
+{
+    uint32_t steps_before = start_list(call, LIST_MISNAMED);
+    const struct form *form;
+
+    do
+        form = &forms[below(FORMS)];
+    while (strchr(form->refusals, '3') == NULL);
+    put_misnamed(call, form);
+    expect(call, steps_before, 23);
 }

@@ -293,7 +293,8 @@ static void print_fields(const struct ovenlute_env *env, const struct ovenlute_e
 
 static void print_outcome(const char *name, const struct call *call, const struct outcome *outcome)
 {
-    printf("  %s: number %d, steps %u, changed:", name, outcome->number, (unsigned)outcome->steps);
+    printf("  %s: number %d, place %u, steps %u, changed:", name, outcome->number, (unsigned)outcome->place,
+           (unsigned)outcome->steps);
     print_fields(&outcome->env, &call->env);
 }
 

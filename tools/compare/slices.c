@@ -6,10 +6,11 @@
 #include "shrink.h"
 #include "slices.h"
 
-/* What calls one after the other came to: the last number, the steps of all, and in the call what was left. */
+/* What calls one after the other came to: the last number and place, the steps of all, and in the call what was left. */
 struct sum {
     struct call call;
     int number;
+    uint32_t place;
     uint32_t steps;
 };
 
@@ -35,6 +36,7 @@ static void start(struct sum *sum, const struct call *call, int kind)
     copy_call(&sum->call, call);
     sum->call.kinds[CALLS] = kind;
     sum->number = 1;
+    sum->place = 0;
     sum->steps = 0;
 }
 
@@ -45,6 +47,7 @@ static void add_call(struct sum *sum, uint32_t budget)
     set_slice(&sum->call, budget);
     check_call(&sum->call, &verdict);
     sum->number = verdict.box.number;
+    sum->place = verdict.box.place;
     sum->steps += verdict.box.steps;
     go_on(&sum->call, &verdict);
 }
@@ -72,6 +75,8 @@ static const char *difference(const struct sum *a, const struct sum *b)
 {
     if (a->number != b->number)
         return "the number";
+    if (a->place != b->place)
+        return "the place";
     if (a->steps != b->steps)
         return "the steps";
     if (!same_env(&a->call.env, &b->call.env))
