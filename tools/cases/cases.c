@@ -77,6 +77,7 @@ static int set_field(char *line)
         { "right", &env.right }, { "bottom", &env.bottom }, { "x", &env.x }, { "y", &env.y },
         { "x0", &env.x0 }, { "y0", &env.y0 }, { "x1", &env.x1 }, { "y1", &env.y1 }, { "mode", &env.mode },
         { "first", &env.first }, { "second", &env.second }, { "counter", &env.counter }, { "depth", &env.depth },
+        { "place", &env.place },
     };
     char *name = next_word(&line);
     uint32_t value = (uint32_t)number(line);
@@ -160,11 +161,11 @@ static void run(void)
 {
     struct afgis_answer answer = afgis_run(list, words, screen, bytes, &env, budget);
 
-    printf("answer %d steps %u\n", answer.number, answer.steps);
+    printf("answer %d place %u steps %u\n", answer.number, answer.place, answer.steps);
     printf("size %u %u pane %u %u %u %u\n", env.width, env.height, env.left, env.top, env.right, env.bottom);
     printf("position %d %d colour %d mode %u window %d %d %d %d\n", env.x, env.y, env.colour, env.mode, env.x0, env.y0, env.x1, env.y1);
     printf("compared %d %d\n", env.first, env.second);
-    printf("state %d counter %u depth %u returns", env.state, env.counter, env.depth);
+    printf("state %d place %u counter %u depth %u returns", env.state, env.place, env.counter, env.depth);
     for (uint32_t i = 0; i < env.depth && i < 16; i++)
         printf(" %u", env.stack[i]);
     printf("\n");
