@@ -5,6 +5,7 @@ pub mod Places
 pub mod Kept
 pub mod Alone
 pub mod DoorLaws
+pub mod Carried
 pub mod Refusals
 pub mod Slices
 pub mod Unique

@@ -1,12 +1,22 @@
--- The place of a 23: the first operand word that names a variable above 63 or implies one, which stands inside the opcode.
+-- Where a refused opcode is at fault: for 23 the first operand word that names a variable above 63 or implies one, which stands inside the opcode; for the
+-- others where it begins or was due.
 use Prim.Native.Nat.{ℕ, _+_, _<_, _≤_, max}
 use mathlib.Core.Path.{_≡_, refl, ap, _∙_}
 use mathlib.Core.Bool.{Bool, true, false, cond}
+use mathlib.Core.Logic.{_⊎_, inl, inr}
 use mathlib.Core.List.{List, [], _∷_, _++_}
 use native.Mathlib.Omega.{arith}
-use lib.Dec.{ltb}
+use lib.Dec.{ltb, leb}
+use lib.ListN.{length}
 use borrow.Author.Tests.{ltb-true, ltb-false}
+use Rattle.player.specs.Player.{fault, Outcome, done, refused}
+use Rattle.rules.specs.Types.{WordIndex}
+use Rattle.rules.specs.Meaning.{Meaning, meaning}
+use Rattle.rules.specs.Table.{formOf}
 use Rattle.rules.specs.Operands.{Piece, Source, width, widths, at, last, highest, firstAbove}
+use Rattle.rules.specs.Environment.{Env}
+use Rattle.rules.specs.Opcodes.{Rule}
+use Rattle.rules.specs.Step.{check, unknown, cut, misnamed, misnaming, ruled, carried, judged, step}
 
 module _ (w : List ℕ) (pc : ℕ) where
   -- it stands at most behind the last piece
@@ -50,3 +60,39 @@ module _ (w : List ℕ) (pc : ℕ) where
             named = f .named;
             below = omega (arith, low, f .below);
           }
+
+-- ---- a refused opcode: with 23 the place is that operand word, with any other number the index where the opcode begins or was due
+module _ (at pc : WordIndex) where
+  abbrev pub Placed : Outcome Env → Type 0
+  Placed (done e p) = Unit {0}
+  Placed (refused v) = (v ≡ fault 23 at) ⊎ (v .place ≡ pc)
+
+  checked : (n : ℕ) (i : WordIndex) (t : Bool) (x : Outcome Env) → Placed (refused (fault n i)) → Placed x → Placed (check n i t x)
+  checked n i true x h k = h
+  checked n i false x h k = k
+
+  here : (n : ℕ) (t : Bool) (x : Outcome Env) → Placed x → Placed (check n pc t x)
+  here n t x k = checked n pc t x (inr refl) k
+
+module _ (w : List ℕ) (e : Env) where
+  abbrev pc : WordIndex
+  pc = e .flow .counter
+
+  by-meaning : (m : Meaning) (r : Rule) → Placed (misnaming m w pc) pc (judged m r w e)
+  unfolding carried
+  by-meaning m r =
+      let i = misnaming m w pc in
+      here i pc 20 (leb (length w) (pc .0)) _
+      (here i pc 21 (unknown m) _
+      (here i pc 22 (cut m w (pc .0)) _
+      (checked i pc 23 i (misnamed m w (pc .0)) _ (inl refl)
+      (here i pc 24 (r .breaks 24) _
+      (here i pc 25 (r .breaks 25) _
+      (here i pc 26 (r .breaks 26) _
+      (here i pc 27 (r .breaks 27) _
+      (here i pc 28 (r .breaks 28) _
+      (here i pc 29 (r .breaks 29) _ tt)))))))))
+
+  pub placed : Placed (misnaming (meaning (formOf (at w (pc .0)))) w pc) pc (step w e)
+  unfolding step
+  placed = by-meaning (meaning (formOf (at w (pc .0)))) (ruled (meaning (formOf (at w (pc .0)))) w e)
