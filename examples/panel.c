@@ -29,9 +29,12 @@ static const uint16_t pump[] = {
     0x0001                                          /* EODL */
 };
 
-static void say(const char *name, struct ovenlute_done done, const struct ovenlute_env *env) {
+/* With 20 to 29 also where: the index of the word at fault. */
+static void say(const char *name, struct ovenlute_done done) {
     struct ovenlute_words words = ovenlute_text(done.number);
-    printf("%s: %d, %s: counter %04X\n", name, done.number, words.text, (unsigned)env->registers.counter);
+    printf("%s: %d, %s", name, done.number, words.text);
+    if (done.number >= OVENLUTE_PAST_END) printf(": word %04X", (unsigned)done.place);
+    putchar('\n');
 }
 
 static void show(void) {
@@ -51,8 +54,8 @@ int main(void) {
         first = ovenlute_run(level, WORDS(level), screen, sizeof screen, &one.env, SLICE);
         second = ovenlute_run(pump, WORDS(pump), screen, sizeof screen, &two.env, SLICE);
     } while (first.number == OVENLUTE_BUDGET || second.number == OVENLUTE_BUDGET);
-    say("level", first, &one.env);  /* level: 0, the list has ended: counter 000A */
-    say("pump", second, &two.env);  /* pump: 26, the divisor is zero: counter 0012 */
+    say("level", first);  /* level: 0, the list has ended */
+    say("pump", second);  /* pump: 26, the divisor is zero: word 0012 */
     /* .......... */
     show();
     return 0;

@@ -176,7 +176,7 @@ static struct afgis_answer run_box(const struct work *work)
 {
     struct ovenlute_made made = ovenlute_fresh(work->width, work->height, work->pane);
     struct ovenlute_done done = ovenlute_run(list, words, screen, bytes_of(work), &made.env, STEPS);
-    struct afgis_answer answer = { done.number, done.steps };
+    struct afgis_answer answer = { done.number, done.place, done.steps };
 
     return answer;
 }
@@ -194,7 +194,7 @@ static struct afgis_answer run_reference(const struct work *work)
 /* The C library's memset over the whole screen, as often as the list clears it. */
 static struct afgis_answer run_memset(const struct work *work)
 {
-    struct afgis_answer answer = { 0, CLEARINGS };
+    struct afgis_answer answer = { 0, 0, CLEARINGS };
 
     for (int i = 0; i < CLEARINGS; i++)
         library_memset(screen, i, bytes_of(work));

@@ -178,11 +178,23 @@ static inline int carry_out(struct machine *m, uint32_t *counter)
     }
 }
 
+/* "The word index at fault": for 23 the operand that names the variable, behind CPIV's long or INCV's opcode word. */
+static uint32_t place_of(const struct machine *m, uint32_t counter, int refusal)
+{
+    return refusal == 23 ? counter + (m->list[counter] == 0x0033 ? 3 : 1) : counter;
+}
+
+static void stop(struct machine *m, uint32_t counter, int refusal)
+{
+    m->env->state = (uint8_t)refusal;
+    m->env->place = place_of(m, counter, refusal);
+}
+
 struct afgis_answer plain_run(const uint16_t *list, size_t words, uint8_t *screen, size_t bytes,
                               struct afgis_env *env, uint32_t budget)
 {
     struct machine m = { list, words, screen, env };
-    struct afgis_answer answer = { 1, 0 };
+    struct afgis_answer answer = { 1, 0, 0 };
     uint32_t counter = env->counter;
 
     if (bytes != (size_t)env->width * env->height) {
@@ -194,9 +206,10 @@ struct afgis_answer plain_run(const uint16_t *list, size_t words, uint8_t *scree
         if (refusal == 0)
             answer.steps++;
         else
-            env->state = (uint8_t)refusal;
+            stop(&m, counter, refusal);
     }
     env->counter = counter;
+    answer.place = env->place;
     if (env->state != 0)
         answer.number = env->state == 1 ? 0 : env->state;
     return answer;
