@@ -7,10 +7,12 @@ use errand::say::say;
 use forms::form_of;
 use names::name_of;
 use names::variables_of;
+use numbers::place::VarNo;
+use numbers::place::WordIndex;
 use rules::opcode::Form;
 
 // Of an environment that was stopped: the number, the index of the opcode, and the place.
-pub fn tell_place(list: &[u16], number: u8, opcode: u32, place: u32) {
+pub fn tell_place(list: &[u16], number: u8, opcode: WordIndex, place: WordIndex) {
     match number {
         20 => tell_due(place),
         21 => tell_word(list, place),
@@ -23,13 +25,13 @@ pub fn tell_place(list: &[u16], number: u8, opcode: u32, place: u32) {
 }
 
 // ': word 0366', where an opcode was due.
-fn tell_due(place: u32) {
+fn tell_due(place: WordIndex) {
     say(b": word ");
     index(place);
 }
 
 // ': 2023 at 0000', the word that is no opcode.
-fn tell_word(list: &[u16], place: u32) {
+fn tell_word(list: &[u16], place: WordIndex) {
     say(b": ");
     hexadecimal(word_at(list, place));
     say(b" at ");
@@ -37,38 +39,41 @@ fn tell_word(list: &[u16], place: u32) {
 }
 
 // 'CLIPWINV at 0365'
-fn tell_opcode(list: &[u16], opcode: u32) {
+fn tell_opcode(list: &[u16], opcode: WordIndex) {
     say_words(name_of(form_at(list, opcode)));
     say(b" at ");
     index(opcode);
 }
 
 // ': word 0366 of CLIPWINV at 0365, V61 to V64'
-fn tell_operand(list: &[u16], opcode: u32, place: u32) {
+fn tell_operand(list: &[u16], opcode: WordIndex, place: WordIndex) {
     say(b": word ");
     index(place);
     say(b" of ");
     tell_opcode(list, opcode);
     say(b", ");
-    tell_variables(word_at(list, place), variables_of(form_at(list, opcode)));
+    tell_variables(
+        VarNo(word_at(list, place)),
+        variables_of(form_at(list, opcode)),
+    );
 }
 
 // The first of so many variables and the last.
-fn tell_variables(first: u16, count: u16) {
+fn tell_variables(first: VarNo, count: u16) {
     say(b"V");
-    decimal(first as u32);
+    decimal(first.0 as u32);
     if 1 < count {
         say(b" to V");
-        decimal((first as u32) + (count as u32) - 1);
+        decimal((first.0 as u32) + (count as u32) - 1);
     }
 }
 
-fn form_at(list: &[u16], at: u32) -> Form {
+fn form_at(list: &[u16], at: WordIndex) -> Form {
     form_of(word_at(list, at))
 }
 
 // A place of 21 to 29 is inside the list; elsewhere there would be none to tell.
-fn word_at(list: &[u16], at: u32) -> u16 {
-    let i = at as usize;
+fn word_at(list: &[u16], at: WordIndex) -> u16 {
+    let i = at.0 as usize;
     if i < list.len() { list[i] } else { 0 }
 }

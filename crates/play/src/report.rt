@@ -42,18 +42,18 @@ pub fn report(names: &[u8], words: &[u16], page: Page) -> Ends {
 }
 
 fn line(name: &[u8], list: &[u16], playing: Playing) {
-    let counter = playing.env.registers.counter.0;
+    let counter = playing.env.registers.counter;
     let number = playing.number;
     tell(name, number);
     if 20 <= number {
-        tell_place(list, number, counter, playing.env.registers.place.0);
+        tell_place(list, number, counter, playing.env.registers.place);
     }
     say(b": steps ");
     decimal(playing.steps);
     say(b", counter ");
     index(counter);
     say(b" (");
-    decimal(counter);
+    decimal(counter.0);
     say(b")\n");
 }
 
