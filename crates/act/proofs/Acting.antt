@@ -1,9 +1,11 @@
 -- What every room shares: carrying out goes by the lowest of 24 to 29 that the rule breaks, whatever the rule.
-use Prim.Native.Nat.{ℕ}
+use Prim.Native.Nat.{ℕ, _<_}
 use mathlib.Core.Path.{_≡_, refl, sym, ap, _∙_}
 use mathlib.Core.Bool.{Bool, true, false, cond, _&&_}
 use mathlib.Core.List.{List}
 use mathlib.Core.Option.{Option, none, some}
+use lib.IntN.{ℤ}
+use Rattle.raster.specs.declared.frame.Bounds.{Bounds}
 use Rattle.raster.specs.declared.frame.Frame.{Frame}
 use Rattle.raster.specs.Shapes.{Shape}
 use Rattle.raster.specs.Frame.{drawable}
@@ -11,13 +13,18 @@ use Rattle.raster.specs.Brush.{Holds}
 use Rattle.player.specs.Painting.{Painting, nothing}
 use Rattle.player.specs.declared.Upshot.{Upshot}
 use Rattle.player.specs.declared.Upshot.the-variants.{Brushed}
+use Rattle.player.specs.declared.State.{State}
+use Rattle.player.specs.declared.State.the-variants.{Stopped}
 use Rattle.player.specs.Player.{fault, Outcome, done, refused}
-use Rattle.player.specs.Shown.{marks, unmarked, went, stayed}
+use Rattle.player.specs.Shown.{marks, unmarked, went, halted}
 use Rattle.numbers.specs.declared.place.WordIndex.{WordIndex}
-use Rattle.rules.specs.Environment.{Env, goto, frame}
+use Rattle.rules.specs.Environment.{Env, goto, stated, frame}
 use Rattle.rules.specs.Opcodes.{Rule, paints}
 use Rattle.rules.specs.Step.{check, carried}
+use Rattle.rules.proofs.Unique.{stopped-state}
+use Rattle.act.specs.Lent.{celled, look}
 use Rattle.act.specs.Shown.{Shown, seen, does}
+use Rattle.act.specs.Contracts.{HaltsHere}
 
 -- the lowest that a rule breaks
 abbrev pub lowest : Rule → Option ℕ
@@ -63,8 +70,8 @@ module _ (rule : Env → Rule) (next : WordIndex) (e : Env) (p : List ℕ) where
   abbrev r : Rule
   r = rule (goto next e)
 
-  -- a rule that breaks n, and none below it, is refused with n where the opcode begins, and all stays
-  pub stays : {n : ℕ} {X : Shown} → lowest r ≡ some n → X ≡ stayed (fault n (e .flow .counter)) e → X ≡ does rule next e p
+  -- a rule that breaks n, and none below it, is refused with n where the opcode begins
+  pub stays : {n : ℕ} {X : Shown} → lowest r ≡ some n → X ≡ halted (stated (Stopped (fault n (e .flow .counter))) e) → X ≡ does rule next e p
   unfolding does
   stays k x = rw (carried-is r e, k) x
 
@@ -91,3 +98,10 @@ module _ (rule : Env → Rule) (next : WordIndex) (e : Env) (p : List ℕ) where
       (x
       ∙ ap (λ (d : Shape). went (r .env) (record { bounds = e .bounds; dots = d; colour = 0 })) (sym (no-dots (frame e)))
       ∙ ap (λ (y : Painting). went (r .env) (marks y)) (sym empty))
+
+-- ---- the cells that a refusal with n leaves, n above 1, show that the rule breaks n
+pub halts : (n : ℕ) → 1 < n → (rule : Env → Rule) (next : WordIndex) {u : Upshot} {cs cs' : List ℕ} → HaltsHere n u cs cs' → (b : Bounds) (ps : List ℤ) (vs st p : List ℕ)
+    → lowest (rule (goto next (look b cs ps vs st))) ≡ some n → seen u (look b cs' ps vs st) p ≡ does rule next (look b cs ps vs st) p
+halts n m rule next {cs = cs} h b ps vs st p k =
+    let e = look b cs ps vs st in
+    rw (h .0) (stays rule next e p k (ap halted (h .1 .shows b ps vs st ∙ ap (λ (q : State). stated q e) (stopped-state (fault n (celled cs .counter)) m))))

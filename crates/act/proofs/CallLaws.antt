@@ -20,8 +20,8 @@ use Rattle.rules.specs.Opcodes.{calls, rule}
 use Rattle.rules.proofs.StackLaws.{length-firsts, push, pop, each}
 use Rattle.act.specs.Lent.{celled, indexed, look, Recelled, Deepened}
 use Rattle.act.specs.Shown.{does}
-use Rattle.act.specs.Contracts.{refusedHere, Stacks, Stacked}
-use Rattle.act.proofs.Acting.{stays, paints-nothing}
+use Rattle.act.specs.Contracts.{HaltsHere, Stacks, Stacked}
+use Rattle.act.proofs.Acting.{halts, paints-nothing}
 use Rattle.act.proofs.Handing.{settled}
 use Rattle.act.proofs.LentLaws.{indexed-set, indexed-at, indexed-length}
 
@@ -32,16 +32,16 @@ then-to n {i} cs p g b ps vs st = g .shows b ps vs st ∙ ap (goto i) (p .1 b ps
 
 -- ---- a call, and a return; d is the depth
 module _ (t : Target) (next : WordIndex) {cs st : List ℕ} (pre : Stacked cs st) where
-  pub call-27 : t ≡ Refused → {u : Upshot} → u ≡ refusedHere 27 cs → Stacks u (does (calls t) next) cs cs st st
-  call-27 m told = record { cells = pre .cells; deep = pre .full; tells = λ b ps vs s. stays _ _ _ s {n = 27} (rw m) (rw told) }
+  pub call-27 : t ≡ Refused → {u : Upshot} {cs' : List ℕ} → HaltsHere 27 u cs cs' → Stacks u (does (calls t) next) cs cs' st st
+  call-27 m h = record { cells = h .1 .full; deep = pre .full; tells = λ b ps vs s. halts 27 (omega arith) (calls t) next h b ps vs st s (rw m) }
 
   module _ {i : WordIndex} (m : t ≡ At i) {d : ℕ} (is : d ≡ celled cs .depth) where
-    pub call-28 : 16 ≤ d → {u : Upshot} → u ≡ refusedHere 28 cs → Stacks u (does (calls t) next) cs cs st st
-    call-28 h told =
+    pub call-28 : 16 ≤ d → {u : Upshot} {cs' : List ℕ} → HaltsHere 28 u cs cs' → Stacks u (does (calls t) next) cs cs' st st
+    call-28 l h =
         record {
-          cells = pre .cells;
+          cells = h .1 .full;
           deep = pre .full;
-          tells = λ b ps vs s. stays _ _ _ s {n = 28} (rw (m, ← is, length-firsts d (indexed st), le-leb 16 d h)) (rw told);
+          tells = λ b ps vs s. halts 28 (omega arith) (calls t) next h b ps vs st s (rw (m, ← is, length-firsts d (indexed st), le-leb 16 d l));
         }
 
     -- the next opcode's index is stored at the depth
@@ -63,12 +63,12 @@ unfolding does
 call-aimed next T is p = record { cells = p .cells; deep = p .deep; tells = λ b ps vs s. rw (← is _) (p .tells b ps vs s) }
 
 module _ (o : Operands) (n : ℕ) (next : WordIndex) {cs st : List ℕ} (pre : Stacked cs st) {d : ℕ} (is : d ≡ celled cs .depth) where
-  pub back-29 : d ≡ 0 → {u : Upshot} → u ≡ refusedHere 29 cs → Stacks u (does (rule Op.Return o n) next) cs cs st st
-  back-29 z told =
+  pub back-29 : d ≡ 0 → {u : Upshot} {cs' : List ℕ} → HaltsHere 29 u cs cs' → Stacks u (does (rule Op.Return o n) next) cs cs' st st
+  back-29 z h =
       record {
-        cells = pre .cells;
+        cells = h .1 .full;
         deep = pre .full;
-        tells = λ b ps vs s. stays _ _ _ s {n = 29} (rw (← is, length-firsts d (indexed st), eq-eqb d 0 z)) (rw told);
+        tells = λ b ps vs s. halts 29 (omega arith) (rule Op.Return o n) next h b ps vs st s (rw (← is, length-firsts d (indexed st), eq-eqb d 0 z));
       }
 
   index : {i : WordIndex} {n : ℕ} → i .0 ≡ n → i ≡ record { 0 = n }

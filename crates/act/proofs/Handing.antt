@@ -6,10 +6,10 @@ use lib.ListN.{length}
 use lib.IntN.{ℤ}
 use Rattle.numbers.specs.declared.place.WordIndex.{WordIndex}
 use Rattle.raster.specs.declared.frame.Bounds.{Bounds}
-use Rattle.player.specs.declared.Verdict.{Verdict}
+use Rattle.player.specs.Player.{fault}
 use Rattle.player.specs.declared.Upshot.{Upshot}
-use Rattle.player.specs.declared.Upshot.the-variants as Upshot
-use Rattle.player.specs.Shown.{unmarked, went}
+use Rattle.player.specs.declared.Upshot.the-variants.{Quiet}
+use Rattle.player.specs.Shown.{unmarked, went, halted}
 use Rattle.rules.specs.declared.opcode.Operands.{Operands}
 use Rattle.rules.specs.Environment.{Env}
 use Rattle.rules.specs.Opcodes.{Rule}
@@ -18,32 +18,32 @@ use Rattle.fetch.specs.declared.source.Taken.the-variants.{Refused, Got}
 use Rattle.fetch.specs.Stages.{Destined}
 use Rattle.act.specs.Lent.{look, CellsFull, PointsFull, Recelled, Repointed}
 use Rattle.act.specs.Shown.{seen, does, answers}
-use Rattle.act.specs.Contracts.{Goes, Sets, Stacks, Moves, Paints, Draws, Brushed}
+use Rattle.act.specs.Contracts.{Halts, Goes, Sets, Stacks, Moves, Paints, Draws, Brushed}
 
-module _ {t : Taken} {v : Verdict} (f : Operands → Env → Rule) (e : t ≡ Refused v) {cs : List ℕ} (l : CellsFull cs) where
-  pub passed-goes : Goes (Upshot.Refused v) (answers t f) cs cs
+module _ {t : Taken} {n : ℕ} {i : WordIndex} (f : Operands → Env → Rule) (e : t ≡ Refused n i) {u : Upshot} {cs cs' : List ℕ} (h : Halts (fault n i) u cs cs') where
+  pub passed-goes : Goes u (answers t f) cs cs'
   unfolding answers
-  passed-goes = record { cells = l; tells = λ b ps vs st s. rw e }
+  passed-goes = record { cells = h .1 .full; tells = λ b ps vs st s. rw (e, h .0) (ap halted (h .1 .shows b ps vs st)) }
 
-  pub passed-sets : {vs : List ℕ} → Sets (Upshot.Refused v) (answers t f) cs cs vs vs
+  pub passed-sets : {vs : List ℕ} → Sets u (answers t f) cs cs' vs vs
   unfolding answers
-  passed-sets = record { cells = l; tells = λ b ps st s. rw e }
+  passed-sets {vs} = record { cells = h .1 .full; tells = λ b ps st s. rw (e, h .0) (ap halted (h .1 .shows b ps vs st)) }
 
-  pub passed-stacks : {st : List ℕ} → length st ≡ 16 → Stacks (Upshot.Refused v) (answers t f) cs cs st st
+  pub passed-stacks : {st : List ℕ} → length st ≡ 16 → Stacks u (answers t f) cs cs' st st
   unfolding answers
-  passed-stacks d = record { cells = l; deep = d; tells = λ b ps vs s. rw e }
+  passed-stacks {st} d = record { cells = h .1 .full; deep = d; tells = λ b ps vs s. rw (e, h .0) (ap halted (h .1 .shows b ps vs st)) }
 
-  pub passed-moves : {ps : List ℤ} → PointsFull ps → Moves (Upshot.Refused v) (answers t f) cs cs ps ps
+  pub passed-moves : {ps : List ℤ} → PointsFull ps → Moves u (answers t f) cs cs' ps ps
   unfolding answers
-  passed-moves k = record { cells = l; points = k; tells = λ b vs st s. rw e }
+  passed-moves {ps} k = record { cells = h .1 .full; points = k; tells = λ b vs st s. rw (e, h .0) (ap halted (h .1 .shows b ps vs st)) }
 
-  pub passed-paints : {p : List ℕ} → Brushed p → Paints (Upshot.Refused v) (answers t f) cs cs p
+  pub passed-paints : {p : List ℕ} → Brushed p → Paints u (answers t f) cs cs' p
   unfolding answers
-  passed-paints k = record { cells = l; brush = k; tells = λ b ps vs st. rw e }
+  passed-paints k = record { cells = h .1 .full; brush = k; tells = λ b ps vs st. rw (e, h .0) (ap halted (h .1 .shows b ps vs st)) }
 
-  pub passed-draws : {ps : List ℤ} {p : List ℕ} → PointsFull ps → Brushed p → Draws (Upshot.Refused v) (answers t f) cs cs ps ps p
+  pub passed-draws : {ps : List ℤ} {p : List ℕ} → PointsFull ps → Brushed p → Draws u (answers t f) cs cs' ps ps p
   unfolding answers
-  passed-draws h k = record { cells = l; points = h; brush = k; tells = λ b vs st. rw e }
+  passed-draws {ps} k l = record { cells = h .1 .full; points = k; brush = l; tells = λ b vs st. rw (e, h .0) (ap halted (h .1 .shows b ps vs st)) }
 
 module _ {t : Taken} {o : Operands} {next : WordIndex} (f : Operands → Env → Rule) (e : t ≡ Got o next) {u : Upshot} {cs cs' : List ℕ} where
   pub got-goes : Goes u (does (f o) next) cs cs' → Goes u (answers t f) cs cs'
@@ -71,7 +71,7 @@ module _ {t : Taken} {o : Operands} {next : WordIndex} (f : Operands → Env →
   got-draws d = rw e d
 
 -- it was quiet: the environment e' that is left is e, and no dot is painted
-pub settled : (p : List ℕ) {u : Upshot} → u ≡ Upshot.Quiet → {e e' : Env} → e' ≡ e → seen u e' p ≡ went e (unmarked (e .bounds))
+pub settled : (p : List ℕ) {u : Upshot} → u ≡ Quiet → {e e' : Env} → e' ≡ e → seen u e' p ≡ went e (unmarked (e .bounds))
 settled p z h = rw (z, h)
 
 -- one change of cells, and then another

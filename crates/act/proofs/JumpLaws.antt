@@ -2,6 +2,7 @@
 use Prim.Native.Nat.{ℕ}
 use mathlib.Core.Path.{_≡_, refl, sym, _∙_}
 use mathlib.Core.Bool.{Bool, true, false, cond}
+use native.Mathlib.Omega.{arith}
 use mathlib.Core.List.{List}
 use Rattle.numbers.specs.declared.place.WordIndex.{WordIndex}
 use Rattle.numbers.specs.declared.place.Target.{Target}
@@ -14,11 +15,11 @@ use Rattle.rules.specs.Environment.{Env, goto}
 use Rattle.rules.specs.Opcodes.{jumps}
 use Rattle.act.specs.declared.flow.Condition.{Condition}
 use Rattle.act.specs.declared.flow.Condition.the-variants.{NotAllowed, Met, Unmet}
-use Rattle.act.specs.Lent.{celled, CellsFull, Recelled}
+use Rattle.act.specs.Lent.{celled, Recelled}
 use Rattle.act.specs.Shown.{does}
 use Rattle.act.specs.Conditions.{meeting, conditionOf}
-use Rattle.act.specs.Contracts.{refusedHere, Goes}
-use Rattle.act.proofs.Acting.{stays, paints-nothing}
+use Rattle.act.specs.Contracts.{HaltsHere, Goes}
+use Rattle.act.proofs.Acting.{halts, paints-nothing}
 use Rattle.act.proofs.Handing.{settled}
 
 -- what an answer of condition k on x and y says of the rule's two tests
@@ -41,14 +42,15 @@ module _ (k : ℕ) (t : Target) (next : WordIndex) (cs : List ℕ) {x y : ℕ} {
   asked : {d : Condition} → c ≡ d → Judged d k (celled cs .first) (celled cs .second)
   asked p = rw (← px, ← py) (judged k x y is p)
 
-  module _ {u : Upshot} where
-    pub jump-24 : c ≡ NotAllowed → CellsFull cs → u ≡ refusedHere 24 cs → Goes u (does (jumps k t) next) cs cs
-    jump-24 p l told = record { cells = l; tells = λ b ps vs st s. stays _ _ _ s {n = 24} (rw (asked p)) (rw told) }
-
-    pub jump-27 : c ≡ Met → t ≡ Refused → CellsFull cs → u ≡ refusedHere 27 cs → Goes u (does (jumps k t) next) cs cs
-    jump-27 p m l told = let j = asked p in record { cells = l; tells = λ b ps vs st s. stays _ _ _ s {n = 27} (rw (j .0, j .1, m)) (rw told) }
-
   module _ {u : Upshot} {cs' : List ℕ} where
+    pub jump-24 : c ≡ NotAllowed → HaltsHere 24 u cs cs' → Goes u (does (jumps k t) next) cs cs'
+    jump-24 p h = record { cells = h .1 .full; tells = λ b ps vs st s. halts 24 (omega arith) (jumps k t) next h b ps vs st s (rw (asked p)) }
+
+    pub jump-27 : c ≡ Met → t ≡ Refused → HaltsHere 27 u cs cs' → Goes u (does (jumps k t) next) cs cs'
+    jump-27 p m h =
+        let j = asked p in
+        record { cells = h .1 .full; tells = λ b ps vs st s. halts 27 (omega arith) (jumps k t) next h b ps vs st s (rw (j .0, j .1, m)) }
+
     pub jump-no : c ≡ Unmet → (u ≡ Quiet) × Recelled (goto next) cs cs' → Goes u (does (jumps k t) next) cs cs'
     jump-no p g =
         let j = asked p in

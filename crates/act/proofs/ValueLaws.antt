@@ -1,6 +1,7 @@
 -- What was computed from Vd's value, and put there, is what the op's rule says; and what a division's answer tells of its rule.
 use Prim.Native.Nat.{ℕ}
 use mathlib.Core.Path.{_≡_, refl, sym, _∙_}
+use native.Mathlib.Omega.{arith}
 use mathlib.Core.List.{List}
 use lib.Dec.{eqb}
 use Rattle.numbers.specs.declared.arith.Division.{Division}
@@ -17,10 +18,9 @@ use Rattle.rules.specs.Step.{carried}
 use Rattle.act.specs.declared.values.Calculation.{Calculation}
 use Rattle.act.specs.declared.values.Calculation.the-variants.{Sum, And, Or, Product, OneMore, OneLess}
 use Rattle.act.specs.Calculations.{calculated, opOf}
-use Rattle.act.specs.Lent.{CellsFull}
 use Rattle.act.specs.Shown.{does}
-use Rattle.act.specs.Contracts.{refusedHere, Sets}
-use Rattle.act.proofs.Acting.{stays}
+use Rattle.act.specs.Contracts.{HaltsHere, Sets}
+use Rattle.act.proofs.Acting.{halts}
 
 -- v in Vd, unless the divisor is zero
 abbrev divides : ℕ → Operands → Env → Rule
@@ -48,8 +48,9 @@ module _ (o : Operands) (next : WordIndex) {cs vs : List ℕ} where
 
   -- the answer x of a division that gives n
   module _ (n : ℕ) {x : Division} (is : x ≡ unlessZero (o .a) n) where
-    pub by-zero : x ≡ ByZero → CellsFull cs → {u : Upshot} → u ≡ refusedHere 26 cs → Sets u (does (divides n o) next) cs cs vs vs
-    by-zero z l told = record { cells = l; tells = λ b ps st s. stays _ _ _ s {n = 26} (rw (told-by-zero (o .a) n (sym is ∙ z))) (rw told) }
+    pub by-zero : x ≡ ByZero → {u : Upshot} {cs' : List ℕ} → HaltsHere 26 u cs cs' → Sets u (does (divides n o) next) cs cs' vs vs
+    by-zero z h =
+        record { cells = h .1 .full; tells = λ b ps st s. halts 26 (omega arith) (divides n o) next h b ps vs st s (rw (told-by-zero (o .a) n (sym is ∙ z))) }
 
     pub by-other : {u : Upshot} {v : ℕ} {cs' vs' : List ℕ} → x ≡ Gives v → Sets u (does (gives v o) next) cs cs' vs vs' → Sets u (does (divides n o) next) cs cs' vs vs'
     unfolding does carried

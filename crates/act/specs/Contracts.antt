@@ -8,20 +8,24 @@ use Rattle.raster.specs.declared.dots.Dot.{Dot}
 use Rattle.raster.specs.declared.frame.Bounds.{Bounds}
 use Rattle.raster.specs.Frame.{Coord}
 use Rattle.raster.specs.Brush.{Full, NearEnds}
+use Rattle.player.specs.declared.Verdict.{Verdict}
 use Rattle.player.specs.declared.Upshot.{Upshot}
 use Rattle.player.specs.declared.Upshot.the-variants.{Refused}
 use Rattle.player.specs.Player.{fault}
-use Rattle.rules.specs.Environment.{Env}
-use Rattle.act.specs.Lent.{celled, pointed, look, CellsFull, PointsFull}
+use Rattle.rules.specs.Environment.{Env, stated, stateOf}
+use Rattle.act.specs.Lent.{celled, pointed, look, CellsFull, PointsFull, Recelled}
 use Rattle.act.specs.Shown.{Shown, seen}
 
 -- what an opcode must show of an environment, with the brush that is left
 abbrev pub Showing : Type 0
 Showing = Env → List ℕ → Shown
 
--- an opcode was refused with a number, where it begins
-abbrev pub refusedHere : ℕ → List ℕ → Upshot
-refusedHere n cs = Refused (fault n (celled cs .counter))
+-- it was refused, and the state has the refusal: that of a verdict, or of a number where the opcode begins
+abbrev pub Halts : Verdict → Upshot → List ℕ → List ℕ → Type 0
+Halts v u cs cs' = (u ≡ Refused) × Recelled (stated (stateOf v)) cs cs'
+
+abbrev pub HaltsHere : ℕ → Upshot → List ℕ → List ℕ → Type 0
+HaltsHere n u cs cs' = Halts (fault n (celled cs .counter)) u cs cs'
 
 -- an opcode came to u, and cells are changed alone; and variables, the stack, points, the brush, points and the brush
 pub record Goes (u : Upshot) (shows : Showing) (cs cs' : List ℕ) : Type 0 where

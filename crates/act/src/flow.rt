@@ -7,6 +7,7 @@ use crate::registers::refuse;
 use crate::registers::second;
 use crate::registers::set_depth;
 use crate::registers::set_ended;
+use crate::registers::stop;
 use crate::stack::Stack;
 use crate::stack::stack_at;
 use crate::stack::stacked_at;
@@ -64,10 +65,10 @@ fn jump_to(k: u32, t: Target, next: WordIndex, cells: &mut Cells) -> Upshot
 {
     let c = condition_of(k, first(&*cells), second(&*cells));
     match c {
-        Condition::NotAllowed => refuse(&*cells, 24),
+        Condition::NotAllowed => refuse(cells, 24),
         Condition::Unmet => finish(cells, next),
         Condition::Met => match t {
-            Target::Refused => refuse(&*cells, 27),
+            Target::Refused => refuse(cells, 27),
             Target::At(i) => finish(cells, i),
         },
     }
@@ -79,7 +80,7 @@ pub fn jump(t: Taken, count: u32, cells: &mut Cells) -> Upshot
     ensures { λ q. ⌜ Goes q (answers t (λ o. rule Op.Jump o count)) (now (cells .entry)) (now (cells .exit)) ⌝ }
 {
     match t {
-        Taken::Refused(v) => Upshot::Refused(v),
+        Taken::Refused(n, i) => stop(cells, n, i),
         Taken::Got(o, next) => jump_to(o.a, word_at(BitAddress(o.b), count), next, cells),
     }
 }
@@ -90,7 +91,7 @@ pub fn jump_by(t: Taken, count: u32, cells: &mut Cells) -> Upshot
     ensures { λ q. ⌜ Goes q (answers t (λ o. rule Op.JumpBy o count)) (now (cells .entry)) (now (cells .exit)) ⌝ }
 {
     match t {
-        Taken::Refused(v) => Upshot::Refused(v),
+        Taken::Refused(n, i) => stop(cells, n, i),
         Taken::Got(o, next) => jump_to(o.a, word_from(next, o.b, count), next, cells),
     }
 }
@@ -101,11 +102,11 @@ fn call_to(t: Target, next: WordIndex, cells: &mut Cells, stack: &mut Stack) -> 
     ensures { λ q. ⌜ Stacks q (does (calls t) next) (now (cells .entry)) (now (cells .exit)) (now (stack .entry)) (now (stack .exit)) ⌝ }
 {
     match t {
-        Target::Refused => refuse(&*cells, 27),
+        Target::Refused => refuse(cells, 27),
         Target::At(i) => {
             let d = depth(&*cells);
             if 16 <= d {
-                return refuse(&*cells, 28);
+                return refuse(cells, 28);
             }
             stack_at(stack, d, next);
             set_depth(cells, d + 1);
@@ -122,7 +123,7 @@ pub fn call(t: Taken, count: u32, cells: &mut Cells, stack: &mut Stack) -> Upsho
         (now (cells .entry)) (now (cells .exit)) (now (stack .entry)) (now (stack .exit)) ⌝ }
 {
     match t {
-        Taken::Refused(v) => Upshot::Refused(v),
+        Taken::Refused(n, i) => stop(cells, n, i),
         Taken::Got(o, next) => call_to(word_at(BitAddress(o.a), count), next, cells, stack),
     }
 }
@@ -135,7 +136,7 @@ pub fn call_by(t: Taken, count: u32, cells: &mut Cells, stack: &mut Stack) -> Up
         (now (cells .entry)) (now (cells .exit)) (now (stack .entry)) (now (stack .exit)) ⌝ }
 {
     match t {
-        Taken::Refused(v) => Upshot::Refused(v),
+        Taken::Refused(n, i) => stop(cells, n, i),
         Taken::Got(o, next) => call_to(word_from(next, o.a, count), next, cells, stack),
     }
 }
@@ -149,7 +150,7 @@ fn back(cells: &mut Cells, stack: &Stack) -> Upshot
 {
     let d = depth(&*cells);
     if d == 0 {
-        return refuse(&*cells, 29);
+        return refuse(cells, 29);
     }
     set_depth(cells, d - 1);
     finish(cells, stacked_at(stack, d - 1))
@@ -162,7 +163,7 @@ pub fn come_back(t: Taken, cells: &mut Cells, stack: &Stack) -> Upshot
         (now (cells .entry)) (now (cells .exit)) (now (stack .entry)) (now (stack .entry))) ⌝ }
 {
     match t {
-        Taken::Refused(v) => Upshot::Refused(v),
+        Taken::Refused(n, i) => stop(cells, n, i),
         Taken::Got(_, _) => back(cells, stack),
     }
 }
@@ -172,7 +173,7 @@ pub fn noop(t: Taken, cells: &mut Cells) -> Upshot
     ensures { λ q. ⌜ ((n : ℕ) → Goes q (answers t (λ o. rule Op.Noop o n)) (now (cells .entry)) (now (cells .exit))) ⌝ }
 {
     match t {
-        Taken::Refused(v) => Upshot::Refused(v),
+        Taken::Refused(n, i) => stop(cells, n, i),
         Taken::Got(_, next) => finish(cells, next),
     }
 }
@@ -182,7 +183,7 @@ pub fn end(t: Taken, cells: &mut Cells) -> Upshot
     ensures { λ q. ⌜ ((n : ℕ) → Goes q (answers t (λ o. rule Op.End o n)) (now (cells .entry)) (now (cells .exit))) ⌝ }
 {
     match t {
-        Taken::Refused(v) => Upshot::Refused(v),
+        Taken::Refused(n, i) => stop(cells, n, i),
         Taken::Got(_, next) => {
             set_ended(cells);
             finish(cells, next)

@@ -9,6 +9,7 @@ use crate::registers::finish_painting;
 use crate::registers::position;
 use crate::registers::refuse;
 use crate::registers::set_position;
+use crate::registers::stop;
 use fetch::source::Taken;
 use numbers::place::WordIndex;
 use numbers::value::low8;
@@ -37,7 +38,7 @@ fn dot_at(x: u32, y: u32, c: u8, next: WordIndex, cells: &mut Cells, brush: &mut
         (now (cells .entry)) (now (cells .exit)) (now (brush .exit)) ⌝ }
 {
     let Point::At(p) = point_of(x, y) else {
-        return refuse(&*cells, 25);
+        return refuse(cells, 25);
     };
     hold_dot(brush, p, c);
     finish_painting(cells, next)
@@ -51,7 +52,7 @@ pub fn pixel(t: Taken, cells: &mut Cells, brush: &mut Brush) -> Upshot
         (now (cells .entry)) (now (cells .exit)) (now (brush .exit))) ⌝ }
 {
     match t {
-        Taken::Refused(v) => Upshot::Refused(v),
+        Taken::Refused(n, i) => stop(cells, n, i),
         Taken::Got(o, next) => {
             let c = colour(&*cells);
             dot_at(o.a, o.b, c, next, cells, brush)
@@ -67,7 +68,7 @@ pub fn pixel_colour(t: Taken, cells: &mut Cells, brush: &mut Brush) -> Upshot
         (now (cells .entry)) (now (cells .exit)) (now (brush .exit))) ⌝ }
 {
     match t {
-        Taken::Refused(v) => Upshot::Refused(v),
+        Taken::Refused(n, i) => stop(cells, n, i),
         Taken::Got(o, next) => {
             let c = low8(o.c);
             dot_at(o.a, o.b, c, next, cells, brush)
@@ -90,16 +91,16 @@ pub fn line(t: Taken, cells: &mut Cells, brush: &mut Brush) -> Upshot
         (now (cells .entry)) (now (cells .exit)) (now (brush .exit))) ⌝ }
 {
     match t {
-        Taken::Refused(v) => Upshot::Refused(v),
+        Taken::Refused(n, i) => stop(cells, n, i),
         Taken::Got(o, next) => {
             if other_type(o.a) {
-                return refuse(&*cells, 24);
+                return refuse(cells, 24);
             }
             let Point::At(p) = point_of(o.b, o.c) else {
-                return refuse(&*cells, 25);
+                return refuse(cells, 25);
             };
             let Point::At(q) = point_of(o.d, o.e) else {
-                return refuse(&*cells, 25);
+                return refuse(cells, 25);
             };
             hold_line(brush, Line { from: p, to: q }, colour(&*cells));
             finish_painting(cells, next)
@@ -134,13 +135,13 @@ pub fn line_to(t: Taken, cells: &mut Cells, points: &mut Points, brush: &mut Bru
         (now (cells .entry)) (now (cells .exit)) (now (points .entry)) (now (points .exit)) (now (brush .exit))) ⌝ }
 {
     match t {
-        Taken::Refused(v) => Upshot::Refused(v),
+        Taken::Refused(n, i) => stop(cells, n, i),
         Taken::Got(o, next) => {
             if other_type(o.a) {
-                return refuse(&*cells, 24);
+                return refuse(cells, 24);
             }
             let Point::At(q) = point_of(o.b, o.c) else {
-                return refuse(&*cells, 25);
+                return refuse(cells, 25);
             };
             draw_to(q, next, cells, points, brush)
         }
@@ -155,14 +156,14 @@ pub fn line_by(t: Taken, cells: &mut Cells, points: &mut Points, brush: &mut Bru
         (now (cells .entry)) (now (cells .exit)) (now (points .entry)) (now (points .exit)) (now (brush .exit))) ⌝ }
 {
     match t {
-        Taken::Refused(v) => Upshot::Refused(v),
+        Taken::Refused(n, i) => stop(cells, n, i),
         Taken::Got(o, next) => {
             if other_type(o.a) {
-                return refuse(&*cells, 24);
+                return refuse(cells, 24);
             }
             let here = position(&*points);
             let Point::At(q) = point_by(here, o.b, o.c) else {
-                return refuse(&*cells, 25);
+                return refuse(cells, 25);
             };
             draw_to(q, next, cells, points, brush)
         }
@@ -177,7 +178,7 @@ pub fn clear(t: Taken, cells: &mut Cells, brush: &mut Brush) -> Upshot
         (now (cells .entry)) (now (cells .exit)) (now (brush .exit))) ⌝ }
 {
     match t {
-        Taken::Refused(v) => Upshot::Refused(v),
+        Taken::Refused(n, i) => stop(cells, n, i),
         Taken::Got(o, next) => {
             hold_all(brush, low8(o.a));
             finish_painting(cells, next)

@@ -11,6 +11,7 @@ use crate::registers::set_colour;
 use crate::registers::set_mode;
 use crate::registers::set_position;
 use crate::registers::set_window;
+use crate::registers::stop;
 use fetch::source::Taken;
 use numbers::value::low8;
 use player::Upshot;
@@ -31,10 +32,10 @@ pub fn clip_mode(t: Taken, cells: &mut Cells) -> Upshot
     ensures { λ q. ⌜ ((n : ℕ) → Goes q (answers t (λ o. rule Op.ClipMode o n)) (now (cells .entry)) (now (cells .exit))) ⌝ }
 {
     match t {
-        Taken::Refused(v) => Upshot::Refused(v),
+        Taken::Refused(n, i) => stop(cells, n, i),
         Taken::Got(o, next) => {
             if 2 < o.a {
-                return refuse(&*cells, 24);
+                return refuse(cells, 24);
             }
             set_mode(cells, o.a);
             finish(cells, next)
@@ -62,13 +63,13 @@ pub fn clip_window(t: Taken, cells: &mut Cells, points: &mut Points) -> Upshot
         (now (cells .entry)) (now (cells .exit)) (now (points .entry)) (now (points .exit))) ⌝ }
 {
     match t {
-        Taken::Refused(v) => Upshot::Refused(v),
+        Taken::Refused(n, i) => stop(cells, n, i),
         Taken::Got(o, next) => {
             let Point::At(p) = point_of(o.a, o.b) else {
-                return refuse(&*cells, 25);
+                return refuse(cells, 25);
             };
             let Point::At(q) = point_of(o.c, o.d) else {
-                return refuse(&*cells, 25);
+                return refuse(cells, 25);
             };
             set_window(points, window(p, q));
             finish(cells, next)
@@ -82,7 +83,7 @@ pub fn colour(t: Taken, cells: &mut Cells) -> Upshot
     ensures { λ q. ⌜ ((n : ℕ) → Goes q (answers t (λ o. rule Op.Colour o n)) (now (cells .entry)) (now (cells .exit))) ⌝ }
 {
     match t {
-        Taken::Refused(v) => Upshot::Refused(v),
+        Taken::Refused(n, i) => stop(cells, n, i),
         Taken::Got(o, next) => {
             set_colour(cells, low8(o.a));
             finish(cells, next)
@@ -98,10 +99,10 @@ pub fn move_to(t: Taken, cells: &mut Cells, points: &mut Points) -> Upshot
         (now (cells .entry)) (now (cells .exit)) (now (points .entry)) (now (points .exit))) ⌝ }
 {
     match t {
-        Taken::Refused(v) => Upshot::Refused(v),
+        Taken::Refused(n, i) => stop(cells, n, i),
         Taken::Got(o, next) => {
             let Point::At(p) = point_of(o.a, o.b) else {
-                return refuse(&*cells, 25);
+                return refuse(cells, 25);
             };
             set_position(points, p);
             finish(cells, next)
@@ -117,11 +118,11 @@ pub fn move_by(t: Taken, cells: &mut Cells, points: &mut Points) -> Upshot
         (now (cells .entry)) (now (cells .exit)) (now (points .entry)) (now (points .exit))) ⌝ }
 {
     match t {
-        Taken::Refused(v) => Upshot::Refused(v),
+        Taken::Refused(n, i) => stop(cells, n, i),
         Taken::Got(o, next) => {
             let here = position(&*points);
             let Point::At(p) = point_by(here, o.a, o.b) else {
-                return refuse(&*cells, 25);
+                return refuse(cells, 25);
             };
             set_position(points, p);
             finish(cells, next)

@@ -13,11 +13,12 @@ ghost use mathlib.Core.Path.{_≡_};
 ghost use mathlib.Core.List.{List};
 ghost use Prim.Native.Nat.{ℕ};
 ghost use Rattle.player.specs.declared.State.the-variants.{Ended};
+ghost use Rattle.player.specs.Player.{fault};
 ghost use Rattle.rules.specs.Environment as Environment;
 ghost use Rattle.rules.specs.Environment.{goto, compared, clipped, coloured, stated, moved, windowed, stateOf};
 ghost use Rattle.act.specs.Lent as Lent;
 ghost use Rattle.act.specs.Lent.{registers, celled, pointed, look, CellsFull, PointsFull, Recelled, Repointed, Deepened};
-ghost use Rattle.act.specs.Contracts.{refusedHere};
+ghost use Rattle.act.specs.Contracts.{Halts, HaltsHere};
 
 // Numbers, each at the place where the functions below read it.
 pub type Cells = [u32; 8];
@@ -98,14 +99,22 @@ pub fn finish_painting(cells: &mut Cells, i: WordIndex) -> Upshot
     Upshot::Brushed
 }
 
-// An opcode that is refused, where it begins.
-pub fn refuse(cells: &Cells, number: u8) -> Upshot
-    ensures { λ u. ⌜ u ≡ refusedHere number (now (cells .entry)) ⌝ }
+// An opcode that is refused: the state has the refusal, and nothing else is changed.
+pub fn stop(cells: &mut Cells, number: u8, place: WordIndex) -> Upshot
+    requires { ⌜ CellsFull (now cells) ⌝ }
+    ensures { λ u. ⌜ Halts (fault number place) u (now (cells .entry)) (now (cells .exit)) ⌝ }
 {
-    Upshot::Refused(Verdict {
-        number,
-        place: counter(cells),
-    })
+    set_state(cells, Verdict { number, place });
+    Upshot::Refused
+}
+
+// The same where the opcode begins.
+pub fn refuse(cells: &mut Cells, number: u8) -> Upshot
+    requires { ⌜ CellsFull (now cells) ⌝ }
+    ensures { λ u. ⌜ HaltsHere number u (now (cells .entry)) (now (cells .exit)) ⌝ }
+{
+    let place = counter(&*cells);
+    stop(cells, number, place)
 }
 
 pub fn first(cells: &Cells) -> u32
@@ -180,7 +189,7 @@ fn place(cells: &Cells) -> WordIndex
 }
 
 // The state that a number and a place stand for.
-pub fn set_state(cells: &mut Cells, v: Verdict)
+fn set_state(cells: &mut Cells, v: Verdict)
     requires { ⌜ CellsFull (now cells) ⌝ }
     ensures { λ _. ⌜ Recelled (stated (stateOf v)) (now (cells .entry)) (now (cells .exit)) ⌝ }
 {

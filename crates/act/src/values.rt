@@ -3,6 +3,7 @@ use crate::registers::Cells;
 use crate::registers::finish;
 use crate::registers::keep_compared;
 use crate::registers::refuse;
+use crate::registers::stop;
 use fetch::source::Taken;
 use numbers::arith;
 use numbers::arith::Division;
@@ -49,7 +50,7 @@ pub fn load(t: Taken, cells: &mut Cells, vars: &mut [u32; 64]) -> Upshot
         (now (cells .entry)) (now (cells .exit)) (now (vars .entry)) (now (vars .exit))) ⌝ }
 {
     match t {
-        Taken::Refused(v) => Upshot::Refused(v),
+        Taken::Refused(n, i) => stop(cells, n, i),
         Taken::Got(o, next) => put(o, next, o.a, cells, vars),
     }
 }
@@ -84,7 +85,7 @@ fn calculate(c: Calculation, t: Taken, cells: &mut Cells, vars: &mut [u32; 64]) 
         (now (cells .entry)) (now (cells .exit)) (now (vars .entry)) (now (vars .exit))) ⌝ }
 {
     match t {
-        Taken::Refused(v) => Upshot::Refused(v),
+        Taken::Refused(n, i) => stop(cells, n, i),
         Taken::Got(o, next) => {
             let v = calculated(c, old(o, &*vars), o.a);
             put(o, next, v, cells, vars)
@@ -160,7 +161,7 @@ fn put_unless_zero(
         → Sets q (does (λ e. refuse 26 (eqb (o .a) 0) (gives v o e)) next) (now (cells .entry)) (now (cells .exit)) (now (vars .entry)) (now (vars .exit))) ⌝ }
 {
     match x {
-        Division::ByZero => refuse(&*cells, 26),
+        Division::ByZero => refuse(cells, 26),
         Division::Gives(v) => put(o, next, v, cells, vars),
     }
 }
@@ -172,7 +173,7 @@ pub fn divide(t: Taken, cells: &mut Cells, vars: &mut [u32; 64]) -> Upshot
         (now (cells .entry)) (now (cells .exit)) (now (vars .entry)) (now (vars .exit))) ⌝ }
 {
     match t {
-        Taken::Refused(v) => Upshot::Refused(v),
+        Taken::Refused(n, i) => stop(cells, n, i),
         Taken::Got(o, next) => {
             let x = arith::quotient(old(o, &*vars), o.a);
             put_unless_zero(o, next, x, cells, vars)
@@ -187,7 +188,7 @@ pub fn remainder(t: Taken, cells: &mut Cells, vars: &mut [u32; 64]) -> Upshot
         (now (cells .entry)) (now (cells .exit)) (now (vars .entry)) (now (vars .exit))) ⌝ }
 {
     match t {
-        Taken::Refused(v) => Upshot::Refused(v),
+        Taken::Refused(n, i) => stop(cells, n, i),
         Taken::Got(o, next) => {
             let x = arith::remainder(old(o, &*vars), o.a);
             put_unless_zero(o, next, x, cells, vars)
@@ -203,7 +204,7 @@ pub fn compare(t: Taken, cells: &mut Cells, vars: &[u32; 64]) -> Upshot
         (now (cells .entry)) (now (cells .exit)) (now (vars .entry)) (now (vars .entry))) ⌝ }
 {
     match t {
-        Taken::Refused(v) => Upshot::Refused(v),
+        Taken::Refused(n, i) => stop(cells, n, i),
         Taken::Got(o, next) => {
             keep_compared(cells, old(o, vars), o.a);
             finish(cells, next)

@@ -32,7 +32,7 @@ module _ (w : List ℕ) (e : Env) where
 
     -- what an op makes of what was taken
     abbrev pub resolved : Op → Taken → Outcome Env
-    resolved op (Refused v) = refused v
+    resolved op (Refused n i) = refused (fault n i)
     resolved op (Got o next) = carried (rule op o (length w) (goto next e)) e
 
     pub step-taken : {op : Op} {s : Source} → meaning (formOf (at w (e .flow .counter .0))) ≡ Known op s
@@ -46,7 +46,7 @@ module _ (w : List ℕ) (e : Env) where
       where
         go : (o : Operands) (next i : WordIndex) (b d : Bool)
             → check 22 (e .flow .counter) b (check 23 i d (carried (rule op o (length w) (goto next e)) e))
-            ≡ resolved op (cond b (Refused (fault 22 (e .flow .counter))) (cond d (Refused (fault 23 i)) (Got o next)))
+            ≡ resolved op (cond b (Refused 22 (e .flow .counter)) (cond d (Refused 23 i) (Got o next)))
         go o next i true d = refl
         go o next i false true = refl
         go o next i false false = refl

@@ -10,7 +10,6 @@ use borrow.Author.Tests.{lt-ltb, le-ltb, ltb-true, ltb-false}
 use Rattle.numbers.specs.declared.place.VarNo.{VarNo}
 use Rattle.numbers.specs.declared.place.WordIndex.{WordIndex}
 use Rattle.numbers.specs.Place as Place
-use Rattle.player.specs.Player.{fault}
 use Rattle.numbers.specs.Number.{signed16, low32}
 use Rattle.rules.specs.declared.opcode.Operands.{Operands}
 use Rattle.rules.specs.Operands.{Source, from, dest, plain, at, sizeOf, highest, firstAbove, following, values, destination, gathered}
@@ -56,7 +55,7 @@ all-words (suc n) = omega (arith, all-words n)
 
 -- ---- a destination d, above 63 or not, which word i names, and v the variable that it is
 module _ (i : WordIndex) (a d : ℕ) (v : VarNo) (is : v .0 ≡ d) (next : WordIndex) where
-  pub above : Place.above v 1 ≡ true → Refused (fault 23 i) ≡ ontoOf i a (record { 0 = d }) next
+  pub above : Place.above v 1 ≡ true → Refused 23 i ≡ ontoOf i a (record { 0 = d }) next
   unfolding ontoOf
   above h = rw (← is, h)
 
@@ -67,13 +66,13 @@ module _ (i : WordIndex) (a d : ℕ) (v : VarNo) (is : v .0 ≡ d) (next : WordI
 
 -- ---- a source
 module _ (ps : Source) (w : List ℕ) (pc : ℕ) (vs : List ℕ) where
-  pub short : length w < pc + sizeOf ps → Refused (fault 22 (record { 0 = pc })) ≡ takenOf ps w pc vs
+  pub short : length w < pc + sizeOf ps → Refused 22 (record { 0 = pc }) ≡ takenOf ps w pc vs
   unfolding takenOf
   short l = rw (lt-ltb _ _ l)
 
   module _ (l : pc + sizeOf ps ≤ length w) where
     -- the first misnamed piece stands k words past the opcode
-    pub over : (k : ℕ) → 63 < highest ps w pc 1 → firstAbove ps w pc 1 ≡ k → Refused (fault 23 (record { 0 = pc + k })) ≡ takenOf ps w pc vs
+    pub over : (k : ℕ) → 63 < highest ps w pc 1 → firstAbove ps w pc 1 ≡ k → Refused 23 (record { 0 = pc + k }) ≡ takenOf ps w pc vs
     unfolding takenOf
     over k h f = rw (le-ltb _ _ l, lt-ltb _ _ h, f)
 
@@ -96,14 +95,14 @@ module _ (ps : Source) (w : List ℕ) (pc : ℕ) (vs : List ℕ) where
     onto {a} k v low high f q r = go (ltb 63 (v + 0)) refl
       where
         go : (b : Bool) → ltb 63 (v + 0) ≡ b
-            → cond b (Refused (fault 23 (record { 0 = pc + k }))) (Got (gathered (a ∷ []) v) (record { 0 = pc + sizeOf ps })) ≡ takenOf ps w pc vs
+            → cond b (Refused 23 (record { 0 = pc + k })) (Got (gathered (a ∷ []) v) (record { 0 = pc + sizeOf ps })) ≡ takenOf ps w pc vs
         go true p = let above : 63 < v = omega (arith, ltb-true 63 (v + 0) p) in over k (omega (arith, above, low)) (f above)
         go false p = fine (omega (arith, ltb-false 63 (v + 0) p)) (ap (λ (a : ℕ). gathered (a ∷ []) v) q ∙ r) refl
 
 -- ---- the word v behind the opcode names the first of n variables: above 63, it is the first misnamed; else a destination behind it is
 module _ (w : List ℕ) (pc : ℕ) {v : ℕ} (is : v ≡ at w (pc + 1)) where
   pub over-first : (n : ℕ) (ps : Source) (vs : List ℕ) → pc + sizeOf (from n ∷ ps) ≤ length w → 63 < v + (n - 1)
-      → Refused (fault 23 (record { 0 = pc + 1 })) ≡ takenOf (from n ∷ ps) w pc vs
+      → Refused 23 (record { 0 = pc + 1 }) ≡ takenOf (from n ∷ ps) w pc vs
   over-first n ps vs l h =
       let high : 63 < at w (pc + 1) + (n - 1) = rw is at h in
       over (from n ∷ ps) w pc vs l 1 (omega (arith, high)) (rw (lt-ltb _ _ high))

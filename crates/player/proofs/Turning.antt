@@ -17,9 +17,9 @@ use Rattle.player.specs.declared.Upshot.the-variants.{Quiet, Brushed, Re
 use Rattle.player.specs.declared.State.{State}
 use Rattle.player.specs.declared.State.the-variants.{Running, Ended, Stopped}
 use Rattle.player.specs.Painting.{Painting, painted}
-use Rattle.player.specs.Player.{Outcome, done, refused, Player}
+use Rattle.player.specs.Player.{Outcome, done, refused, Player, Stops}
 use Rattle.player.specs.Run.{Answer, answer, by-state, by-opcode, runs}
-use Rattle.player.specs.Shown.{Marks, marks, unmarked, marked, went, stayed, shown, brushed, seen, verdictOf}
+use Rattle.player.specs.Shown.{Marks, marks, unmarked, marked, went, halted, shown, brushed, seen, verdictOf}
 
 one-less : (b k : ℕ) → k < b → b - k ≡ suc (b - (k + 1))
 one-less b k h = omega arith
@@ -40,14 +40,14 @@ module _ {E : Type 0} (P : Player E) where
   pub record Turned (e : E) (s : List ℕ) (e₁ : E) (s₁ : List ℕ) : Type 0 where
     pub dots : Marks
     pub screen : s₁ ≡ marked dots s
-    pub shows : went e₁ dots ≡ shown (P .step e) e
+    pub shows : went e₁ dots ≡ shown (P .stop) (P .step e) e
 
   pub turned-long : {e : E} {s : List ℕ} {e₁ : E} {s₁ : List ℕ} → Turned e s e₁ s₁ → length s₁ ≡ length s
   turned-long {s = s} t = ap length (t .screen) ∙ length-recolour _ _ s
 
-  module _ (frame : E → Frame) (e : E) (s : List ℕ) {u : Upshot} (e₁ : E) (p : List ℕ) (as-shown : seen frame u e₁ p ≡ shown (P .step e) e) where
+  module _ (frame : E → Frame) (e : E) (s : List ℕ) {u : Upshot} (e₁ : E) (p : List ℕ) (as-shown : seen frame u e₁ p ≡ shown (P .stop) (P .step e) e) where
     -- what the brush holds is to be painted
-    pub painting : u ≡ Brushed → went e₁ (marks (brushed (frame e₁) p)) ≡ shown (P .step e) e
+    pub painting : u ≡ Brushed → went e₁ (marks (brushed (frame e₁) p)) ≡ shown (P .stop) (P .step e) e
     painting is = rw is at as-shown
 
     pub turned-painting : u ≡ Brushed → {s₁ : List ℕ} {f : Frame} → f ≡ frame e₁ → s₁ ≡ paint f (shapeOf p) (colourOf p) s → Turned e s e₁ s₁
@@ -63,7 +63,7 @@ module _ {E : Type 0} (P : Player E) where
     turned-quiet is x = let b = frame e₁ .bounds in record { dots = unmarked b; screen = x ∙ unmarked-is b s; shows = rw is at as-shown }
 
     -- it is refused
-    pub not-carried-out : {v : Verdict} → u ≡ Refused v → stayed v e₁ ≡ shown (P .step e) e
+    pub not-carried-out : u ≡ Refused → halted e₁ ≡ shown (P .stop) (P .step e) e
     not-carried-out is = rw is at as-shown
 
 module _ {E : Type 0} (P : Player E) (left : ℕ) (e : E) (s : List ℕ) (k : ℕ) where
@@ -78,7 +78,7 @@ module _ {E : Type 0} (P : Player E) (left : ℕ) (e : E) (s : List ℕ) (k : �
   rests (Stopped v) h n = rw h
 
   -- an opcode that is carried out: the run goes on from what it shows
-  goes : (e₁ : E) (m : Marks) → P .state e ≡ Running → (o : Outcome E) → P .step e ≡ o → went e₁ m ≡ shown o e
+  goes : (e₁ : E) (m : Marks) → P .state e ≡ Running → (o : Outcome E) → P .step e ≡ o → went e₁ m ≡ shown (P .stop) o e
       → runs P (suc left) e s k ≡ runs P left e₁ (marked m s) (suc k)
   unfolding runs
   goes e₁ m h (done e' p) d q =
@@ -89,12 +89,16 @@ module _ {E : Type 0} (P : Player E) (left : ℕ) (e : E) (s : List ℕ) (k : �
       ∙ ap₂ (λ (x : E) (t : List ℕ). runs P left x t (suc k)) env (sym (marked-is p s) ∙ ap (λ (x : Marks). marked x s) dots))
   goes e₁ m h (refused v) d q = cc
 
-  -- one that is refused stops it
-  stops : (v : Verdict) (e₁ : E) → P .state e ≡ Running → (o : Outcome E) → P .step e ≡ o → stayed v e₁ ≡ shown o e
-      → runs P (suc left) e s k ≡ answer v (P .stop v e₁) s k
+  -- one that is refused stops it, and what it is left with says the refusal
+  stops : Stops P → (e₁ : E) → P .state e ≡ Running → (o : Outcome E) → P .step e ≡ o → halted e₁ ≡ shown (P .stop) o e
+      → runs P (suc left) e s k ≡ answer (verdictOf (P .state e₁)) e₁ s k
   unfolding runs
-  stops v e₁ h (done e' p) d q = cc
-  stops v e₁ h (refused u) d q = ap (λ (x : State). turn x (P .step e)) h ∙ (ap (turn Running) d ∙ cc)
+  stops told e₁ h (done e' p) d q = cc
+  stops told e₁ h (refused v) d q =
+      let env : P .stop v e ≡ e₁ = cc in
+      let says : P .state e₁ ≡ Stopped v = ap (P .state) (sym env) ∙ told v e in
+      ap (λ (x : State). turn x (P .step e)) h
+      ∙ (ap (turn Running) d ∙ ap₂ (λ (w : Verdict) (x : E). answer w x s k) (sym (ap verdictOf says)) env)
 
 module _ {E : Type 0} (P : Player E) (b k : ℕ) (e : E) (s : List ℕ) (R : Answer E) (at : R ≡ runs P (b - k) e s k) where
   more : k < b → R ≡ runs P (suc (b - (k + 1))) e s k
@@ -109,8 +113,8 @@ module _ {E : Type 0} (P : Player E) (b k : ℕ) (e : E) (s : List ℕ) (R : Ans
       ∙ (goes P (b - (k + 1)) e s k e₁ (t .dots) q (P .step e) refl (t .shows)
       ∙ ap₂ (λ (x : List ℕ) (n : ℕ). runs P (b - (k + 1)) e₁ x n) (sym (t .screen)) (sym (add-one k)))
 
-  pub stop : (v : Verdict) (e₁ : E) → k < b → P .state e ≡ Running → stayed v e₁ ≡ shown (P .step e) e → answer v (P .stop v e₁) s k ≡ R
-  stop v e₁ h q d = sym (more h ∙ stops P (b - (k + 1)) e s k v e₁ q (P .step e) refl d)
+  pub stop : Stops P → (e₁ : E) → k < b → P .state e ≡ Running → halted e₁ ≡ shown (P .stop) (P .step e) e → answer (verdictOf (P .state e₁)) e₁ s k ≡ R
+  stop told e₁ h q d = sym (more h ∙ stops P (b - (k + 1)) e s k told e₁ q (P .step e) refl d)
 
   pub used-up : b ≤ k → answer (verdictOf (P .state e)) e s k ≡ R
   unfolding runs

@@ -33,24 +33,25 @@ unmarked b = record { bounds = b; dots = λ x y. false; colour = 0 }
 abbrev pub marked : Marks → List ℕ → List ℕ
 marked m s = recolour (λ k. m .dots (columnOf (m .bounds) k) (rowOf (m .bounds) k)) (m .colour) s
 
--- ---- the environment afterwards with the dots that are painted, or the refusal with the environment as it is
+-- ---- the environment afterwards with the dots that are painted, or as the refusal stopped it
 pub data Shown (E : Type 0) : Type 0 where
   went : E → Marks → Shown E
-  stayed : Verdict → E → Shown E
+  halted : E → Shown E
 
-abbrev pub shown : {E : Type 0} → Outcome E → E → Shown E
-shown (done e' p) e = went e' (marks p)
-shown (refused v) e = stayed v e
+-- of an opcode in the environment e, which a refusal stops so
+abbrev pub shown : {E : Type 0} → (Verdict → E → E) → Outcome E → E → Shown E
+shown stop (done e' p) e = went e' (marks p)
+shown stop (refused v) e = halted (stop v e)
 
 -- what a brush paints within a frame
 abbrev pub brushed : Frame → List ℕ → Painting
 brushed f p = record { frame = f; shape = shapeOf p; colour = colourOf p }
 
--- what a program hands back, with the environment and the brush that it leaves: nothing is painted, or what the brush holds, or a refusal
+-- what a program hands back, with the environment and the brush that it leaves: nothing is painted, or what the brush holds, or it was refused
 abbrev pub seen : {E : Type 0} → (E → Frame) → Upshot → E → List ℕ → Shown E
 seen frame Quiet e p = went e (unmarked (frame e .bounds))
 seen frame Brushed e p = went e (marks (brushed (frame e) p))
-seen frame (Refused v) e p = stayed v e
+seen frame Refused e p = halted e
 
 -- ---- what a state answers; of one that still runs, that the budget is used up
 abbrev pub verdictOf : State → Verdict

@@ -20,11 +20,12 @@ pub fn carrying_0(number: u8) -> Verdict
     }
 }
 
-// What an opcode came to: it is carried out and paints nothing, or what the brush holds; or it is refused.
+// What an opcode came to: it is carried out and paints nothing, or what the brush holds; or it is refused, and the state has
+// the refusal.
 pub enum Upshot {
     Quiet,
     Brushed,
-    Refused(Verdict),
+    Refused,
 }
 
 // The state that an environment holds: stopped with the refusal.

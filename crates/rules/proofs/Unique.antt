@@ -1,12 +1,13 @@
 -- No second answer meets the promise: number, place, every field of the environment, every byte of the screen, steps. Only what lies past the
 -- last return stacked is free, which is no part of the environment.
-use Prim.Native.Nat.{ℕ}
+use Prim.Native.Nat.{ℕ, _<_}
 use mathlib.Core.Path.{_≡_, refl, sym, ap, _∙_}
 use mathlib.Core.Bool.{Bool, true, false, cond}
 use mathlib.Core.List.{List}
 use lib.ListN.{length}
 use lib.Dec.{eqb}
-use borrow.Author.Tests.{eqb-true}
+use borrow.Author.Tests.{eqb-true, ne-eqb}
+use native.Mathlib.Omega.{arith}
 use Rattle.player.specs.Player.{fault, verdict}
 use Rattle.player.specs.Run.{Answer, answer}
 use Rattle.player.specs.Hosted.{answered}
@@ -40,6 +41,10 @@ kept-state v = first (carries0 v 0) refl
     first : (t : Bool) → carries0 v 0 ≡ t → kept (cond t Running (cond (carries0 v 1) Ended (Stopped v))) ≡ v
     first true h = carried v 0 h
     first false h = second (carries0 v 1) refl
+
+pub stopped-state : (v : Verdict) → 1 < v .number → stateOf v ≡ Stopped v
+unfolding stateOf
+stopped-state v h = rw (ne-eqb (v .number) 0 (λ z. omega (arith, z, h)), ne-eqb (v .number) 1 (λ z. omega (arith, z, h)))
 
 -- all that the program's environment holds, but for what lies past the last return stacked
 pub record Alike (a b : Held.Env) : Type 0 where

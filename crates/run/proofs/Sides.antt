@@ -5,6 +5,7 @@ use mathlib.Core.Bool.{true}
 use mathlib.Core.List.{List}
 use native.Mathlib.Omega.{arith}
 use lib.ListN.{length}
+use borrow.Author.Tests.{leb-true}
 use Rattle.player.specs.declared.State.{State}
 use Rattle.player.specs.declared.State.the-variants.{Running, Ended, Stopped}
 use Rattle.player.specs.Player.{verdict}
@@ -21,13 +22,13 @@ use Rattle.player.proofs.Doors.{refused-whole, run-whole}
 use Rattle.player.proofs.Hosts.{hosted-obeys}
 use Rattle.rules.specs.declared.environment.Env as Held
 use Rattle.rules.specs.Environment.{Env, env, held, stateOf, kept}
-use Rattle.rules.specs.Door.{stateFits, door, machine, whole}
+use Rattle.rules.specs.Door.{between, stateFits, door, machine, whole}
 use Rattle.rules.specs.Door as Door
-use Rattle.rules.proofs.Ranges.{Fits}
+use Rattle.rules.proofs.Ranges.{one, Fits}
+use Rattle.rules.proofs.Unique.{stopped-state}
 use Rattle.rules.proofs.StackLaws.{all-of}
 use Rattle.rules.proofs.DoorLaws.{opened, run-keeps}
 use Rattle.rules.proofs.Alone.{keeps}
-use Rattle.run.proofs.Stepping.{stopped-state}
 
 -- `run` is a program for the rules' machine: its contract leaves the rules' reply only
 abbrev pub running : Promised (callable machine)
@@ -54,7 +55,7 @@ kept-back : (q : State) → stateFits q ≡ true → stateOf (kept q) ≡ q
 unfolding stateOf
 kept-back Running h = refl
 kept-back Ended h = refl
-kept-back (Stopped v) h = stopped-state v h
+kept-back (Stopped v) h = stopped-state v (omega (arith, leb-true 20 (v .number) (one _ _ (one (between 20 29 (v .number)) _ h))))
 
 -- an environment of the rules as the program holds it
 abbrev holding : Env → Held.Env

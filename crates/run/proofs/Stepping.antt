@@ -12,34 +12,23 @@ use Rattle.raster.specs.Frame.{Fitting}
 use Rattle.player.specs.declared.Verdict.{Verdict}
 use Rattle.player.specs.declared.State.the-variants.{Running, Ended, Stopped}
 use Rattle.player.specs.Player.{Outcome, done, refused}
-use Rattle.player.specs.Run.{answer}
-use Rattle.player.specs.Shown.{Marks, went, stayed, shown}
+use Rattle.player.specs.Shown.{Marks, went, shown}
 use Rattle.player.proofs.Runs.{Leaves}
-use Rattle.rules.specs.Environment.{Env, stated, carries0, stateOf, frame}
+use Rattle.rules.specs.Environment.{Env, carries0, stateOf, frame}
 use Rattle.rules.specs.Step.{step, afgis}
 use Rattle.rules.specs.Door.{between, sizeFits, stateFits, fits}
 use Rattle.rules.proofs.Ranges.{one, Fits, joined, parted}
 use Rattle.rules.proofs.Kept.{step-keeps}
 use Rattle.rules.proofs.DoorLaws.{fitting}
-use Rattle.run.specs.Turns.{left}
 
 -- ---- what is left is in range
 module _ (w : List ℕ) (few : length w ≤ 65536) (e : Env) (h : fits e ≡ true) where
-  went-fits : (o : Outcome Env) → Leaves (afgis w) (Fits (e .bounds)) e o → (e₁ : Env) (m : Marks) → went e₁ m ≡ shown o e → Fits (e .bounds) e₁
+  went-fits : (o : Outcome Env) → Leaves (afgis w) (Fits (e .bounds)) e o → (e₁ : Env) (m : Marks) → went e₁ m ≡ shown (afgis w .stop) o e → Fits (e .bounds) e₁
   went-fits (done e' p) l e₁ m q = let r : e' ≡ e₁ = cc in subst (Fits (e .bounds)) r l
   went-fits (refused v) l e₁ m q = let z : _≡_ {A = ℕ} 0 1 = cc in absurd (omega (arith, z))
 
-  pub leaves-fits : (e₁ : Env) (m : Marks) → went e₁ m ≡ shown (step w e) e → fits e₁ ≡ true
+  pub leaves-fits : (e₁ : Env) (m : Marks) → went e₁ m ≡ shown (afgis w .stop) (step w e) e → fits e₁ ≡ true
   leaves-fits e₁ m q = joined e₁ (went-fits (step w e) (step-keeps w few (e .bounds) e (parted e h)) e₁ m q)
-
-  -- a refusal is one that a stopped environment may keep: 20 to 29, at a place 0 to 65,536
-  stays-told : (o : Outcome Env) → Leaves (afgis w) (Fits (e .bounds)) e o → (v : Verdict) (e₁ : Env) → stayed v e₁ ≡ shown o e
-      → stateFits (Stopped v) ≡ true
-  stays-told (done e' p) l v e₁ q = let z : _≡_ {A = ℕ} 0 1 = cc in absurd (omega (arith, z))
-  stays-told (refused u) l v e₁ q = let r : u ≡ v = cc in subst (λ (x : Verdict). stateFits (Stopped x) ≡ true) r (l .3)
-
-  pub told-refusal : (v : Verdict) (e₁ : Env) → stayed v e₁ ≡ shown (step w e) e → stateFits (Stopped v) ≡ true
-  told-refusal v e₁ q = stays-told (step w e) (step-keeps w few (e .bounds) e (parted e h)) v e₁ q
 
 -- what may be drawn on, f, is the frame of such an environment
 pub may-draw : {f : Frame} (e : Env) (s : List ℕ) → f ≡ frame e → sizeFits (e .bounds) ≡ true → fits e ≡ true → length s ≡ e .bounds .width * e .bounds .height
@@ -68,14 +57,3 @@ not-running v h q = at-one (carries0 v 1) (rw (ne-eqb (v .number) 0 h) at q)
     at-one : (t : Bool) → cond t Ended (Stopped v) ≡ Running → ⊥
     at-one true p = let z : _≡_ {A = ℕ} 0 1 = cc in omega (arith, z)
     at-one false p = let z : _≡_ {A = ℕ} 0 1 = cc in omega (arith, z)
-
-pub stopped-state : (v : Verdict) → stateFits (Stopped v) ≡ true → stateOf v ≡ Stopped v
-unfolding stateOf
-stopped-state v h =
-    let k = least v h in
-    rw (ne-eqb (v .number) 0 (λ z. omega (arith, z, k)), ne-eqb (v .number) 1 (λ z. omega (arith, z, k)))
-
--- stopped with the refusal, and that is the answer
-pub stopped-left : (e : Env) {e' : Env} (v : Verdict) → e' ≡ stated (stateOf v) e → stateFits (Stopped v) ≡ true → (s : List ℕ) (k : ℕ)
-    → left e' s k ≡ answer v (stated (Stopped v) e) s k
-stopped-left e v p h s k = rw (p, stopped-state v h)

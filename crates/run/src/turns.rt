@@ -2,7 +2,6 @@
 use act::registers::Cells;
 use act::registers::Points;
 use act::registers::frame;
-use act::registers::set_state;
 use act::registers::state;
 use act::stack::Stack;
 use player::Upshot;
@@ -43,10 +42,7 @@ pub fn turns(
         match upshot {
             Upshot::Quiet => {}
             Upshot::Brushed => paint(screen, frame(b, &*cells, &*points), &brush),
-            Upshot::Refused(v) => {
-                set_state(cells, v);
-                return steps;
-            }
+            Upshot::Refused => return steps,
         }
         steps += 1;
     }

@@ -11,24 +11,26 @@ use lib.IntN.{ℤ}
 use Rattle.numbers.specs.declared.place.WordIndex.{WordIndex}
 use Rattle.raster.specs.declared.frame.Bounds.{Bounds}
 use Rattle.player.specs.declared.Upshot.{Upshot}
+use Rattle.player.specs.declared.State.{State}
 use Rattle.player.specs.Player.{fault, Outcome, refused}
-use Rattle.player.specs.Shown.{shown}
+use Rattle.player.specs.Shown.{halted}
 use Rattle.rules.specs.declared.opcode.Operands.{Operands}
 use Rattle.rules.specs.Table.{formOf}
 use Rattle.rules.specs.Meaning.{Meaning, Unknown, Known, meaning}
 use Rattle.rules.specs.Operands.{at, sizeOf, highest, operands}
-use Rattle.rules.specs.Environment.{Env, firsts}
+use Rattle.rules.specs.Environment.{Env, firsts, stated, stateOf}
 use Rattle.rules.specs.Opcodes.{rule}
 use Rattle.rules.specs.Step.{step}
 use Rattle.rules.proofs.StackLaws.{length-firsts}
+use Rattle.rules.proofs.Unique.{stopped-state}
 use Rattle.rules.proofs.Ranges.{Fits, parted}
 use Rattle.rules.proofs.DoorLaws.{coord}
 use Rattle.fetch.specs.declared.source.Taken.the-variants.{Refused, Got}
 use Rattle.fetch.specs.Stages.{Reaches, takenOf}
 use Rattle.fetch.proofs.Steps as Fetched
 use Rattle.act.specs.Lent.{celled, indexed, look}
-use Rattle.act.specs.Shown.{does, answers}
-use Rattle.act.specs.Contracts.{refusedHere, Drawable, Stacked, Sets, Stacks, Moves, Draws}
+use Rattle.act.specs.Shown.{shown, does, answers}
+use Rattle.act.specs.Contracts.{HaltsHere, Drawable, Stacked, Sets, Stacks, Moves, Draws}
 use Rattle.step.specs.Steps.{shows, Able, Steps}
 
 -- a step is taken at pc: all is ready, and the list has a word there
@@ -38,21 +40,25 @@ pub record Here (w cs : List ℕ) (ps : List ℤ) (vs st p : List ℕ) (pc : ℕ
   pub inside : pc < length w
 
 module _ {w cs : List ℕ} {ps : List ℤ} {vs st p : List ℕ} where
-  -- refused with n where the opcode begins or was due, and all stays
-  refuses : Able w cs ps vs st p → (n : ℕ) {u : Upshot} → u ≡ refusedHere n cs
-      → ((b : Bounds) → step w (look b cs ps vs st) ≡ refused (fault n (celled cs .counter))) → Steps u w cs ps vs st cs ps vs st p
-  refuses r n told d =
+  -- refused with n where the opcode begins or was due, and but for the state all stays
+  refuses : Able w cs ps vs st p → (n : ℕ) → 1 < n → {u : Upshot} {cs' : List ℕ} → HaltsHere n u cs cs'
+      → ((b : Bounds) → step w (look b cs ps vs st) ≡ refused (fault n (celled cs .counter))) → Steps u w cs ps vs st cs' ps vs st p
+  refuses r n m h d =
       record {
-        cells = r .cells;
+        cells = h .1 .full;
         points = r .points;
         full = r .full;
         brush = r .brush;
-        tells = λ b. rw told (sym (ap (λ (x : Outcome Env). shown x (look b cs ps vs st)) (d b)));
+        tells = λ b.
+            let e = look b cs ps vs st in
+            rw (h .0)
+            (ap halted (h .1 .shows b ps vs st ∙ ap (λ (q : State). stated q e) (stopped-state (fault n (celled cs .counter)) m))
+            ∙ sym (ap (λ (x : Outcome Env). shown x e) (d b)));
       }
 
-  pub step-20 : Able w cs ps vs st p → {pc : ℕ} → pc ≡ celled cs .counter .0 → length w ≤ pc → {u : Upshot} → u ≡ refusedHere 20 cs
-      → Steps u w cs ps vs st cs ps vs st p
-  step-20 r e l told = refuses r 20 told (λ b. Fetched.step-20 w (look b cs ps vs st) (rw (← e) l))
+  pub step-20 : Able w cs ps vs st p → {pc : ℕ} → pc ≡ celled cs .counter .0 → length w ≤ pc → {u : Upshot} {cs' : List ℕ} → HaltsHere 20 u cs cs'
+      → Steps u w cs ps vs st cs' ps vs st p
+  step-20 r e l h = refuses r 20 (omega arith) h (λ b. Fetched.step-20 w (look b cs ps vs st) (rw (← e) l))
 
   module _ {pc : ℕ} (h : Here w cs ps vs st p pc) where
     -- ---- what fetch and act ask
@@ -93,7 +99,7 @@ module _ {w cs : List ℕ} {ps : List ℤ} {vs st p : List ℕ} where
 
       -- what an opcode must show, by what it means, is what the rules say of the step
       is-step : (b : Bounds) (p : List ℕ) → shows m w pc vs (look b cs ps vs st) p ≡ shown (step w (look b cs ps vs st)) (look b cs ps vs st)
-      unfolding shows answers does takenOf
+      unfolding shows answers does takenOf stateOf
       is-step b p = rw (h .counter) (by-meaning m here-means)
         where
           by-meaning : (m : Meaning) → meaning (formOf (at w (celled cs .counter .0))) ≡ m
@@ -104,7 +110,7 @@ module _ {w cs : List ℕ} {ps : List ℤ} {vs st p : List ℕ} where
               (go (operands source w (celled cs .counter .0) vs) _ _ (ltb (length w) (celled cs .counter .0 + sizeOf source)) (ltb 63 (highest source w (celled cs .counter .0) 1)))
             where
               go : (o : Operands) (next i : WordIndex) (x y : Bool)
-                  → let t = cond x (Refused (fault 22 (celled cs .counter))) (cond y (Refused (fault 23 i)) (Got o next)) in
+                  → let t = cond x (Refused 22 (celled cs .counter)) (cond y (Refused 23 i) (Got o next)) in
                   answers t (λ o. rule op o (length w)) (look b cs ps vs st) p ≡ shown (Fetched.resolved w (look b cs ps vs st) inside op t) (look b cs ps vs st)
               go o next i true y = refl
               go o next i false true = refl
@@ -128,5 +134,5 @@ module _ {w cs : List ℕ} {ps : List ℤ} {vs st p : List ℕ} where
         step-draws {p' = p'} r =
             record { cells = r .cells; points = r .points; full = h .ready .full; brush = r .brush; tells = λ b. r .tells b vs st ∙ is-step b p' }
 
-    pub step-21 : meaning (formOf (at w pc)) ≡ Unknown → {u : Upshot} → u ≡ refusedHere 21 cs → Steps u w cs ps vs st cs ps vs st p
-    step-21 k told = refuses (h .ready) 21 told (λ b. Fetched.step-21 w (look b cs ps vs st) inside (rw (h .counter) at k))
+    pub step-21 : meaning (formOf (at w pc)) ≡ Unknown → {u : Upshot} {cs' : List ℕ} → HaltsHere 21 u cs cs' → Steps u w cs ps vs st cs' ps vs st p
+    step-21 k halts = refuses (h .ready) 21 (omega arith) halts (λ b. Fetched.step-21 w (look b cs ps vs st) inside (rw (h .counter) at k))

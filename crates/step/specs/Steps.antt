@@ -7,20 +7,22 @@ use lib.ListN.{length}
 use lib.IntN.{ℤ}
 use Rattle.raster.specs.declared.frame.Bounds.{Bounds}
 use Rattle.player.specs.declared.Upshot.{Upshot}
+use Rattle.player.specs.declared.State.the-variants.{Stopped}
 use Rattle.player.specs.Player.{fault}
-use Rattle.player.specs.Shown.{shown, stayed}
+use Rattle.player.specs.Shown.{halted}
 use Rattle.rules.specs.Meaning.{Meaning, Unknown, Known}
+use Rattle.rules.specs.Environment.{stated}
 use Rattle.rules.specs.Opcodes.{rule}
 use Rattle.rules.specs.Step.{step}
 use Rattle.rules.specs.Door.{fits}
 use Rattle.act.specs.Lent.{look, CellsFull, PointsFull}
 use Rattle.fetch.specs.Stages.{takenOf}
-use Rattle.act.specs.Shown.{seen, answers}
+use Rattle.act.specs.Shown.{seen, shown, answers}
 use Rattle.act.specs.Contracts.{Showing, Brushed}
 
 -- what the opcode at pc must show, by what it means
 unfoldable pub shows : Meaning → List ℕ → ℕ → List ℕ → Showing
-shows Unknown w pc vs = λ e p. stayed (fault 21 (record { 0 = pc })) e
+shows Unknown w pc vs = λ e p. halted (stated (Stopped (fault 21 (record { 0 = pc }))) e)
 shows (Known op source) w pc vs = answers (takenOf source w pc vs) (λ o. rule op o (length w))
 
 -- what the door establishes, and every opcode leaves: with some size and pane, all is in range

@@ -9,8 +9,8 @@ use Rattle.act.proofs.flow.call.Tie as tie
 pub call-spec : {M : Type 1} → statement M
 call-spec =
     tie.close (tie.spec
-    (λ c. search needs) (λ c. search needs) (λ c κs. search needs) (λ c κs. search needs)
-    (λ c. let p = c .before .before .before .pre in passed-stacks _ (c .before .t .given .1) (p .cells) (p .full))
+    (λ c. search needs) (λ c κs. search needs) (λ c. search needs) (λ c κs. search needs) (λ c κs. search needs)
+    (λ d. let c = d .before .before in passed-stacks _ (c .before .t .given .1) (d .stop .ensures) (c .before .before .before .pre .full))
     (λ c.
     let a = c .before .before .before in
     let t = a .before .before in

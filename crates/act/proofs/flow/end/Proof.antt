@@ -9,8 +9,8 @@ use Rattle.act.proofs.flow.end.Tie as tie
 pub end-spec : {M : Type 1} → statement M
 end-spec =
     tie.close (tie.spec
-    (λ c. search needs) (λ c. search needs) (λ c κs. search needs) (λ c κs. search needs)
-    (λ c n. passed-goes _ (c .before .t .given .1) (c .before .before .before .pre))
+    (λ c. search needs) (λ c κs. search needs) (λ c. search needs) (λ c κs. search needs) (λ c κs. search needs)
+    (λ d n. passed-goes _ (d .before .before .before .t .given .1) (d .stop .ensures))
     (λ c n.
     let g = c .finish .ensures in
     let r = then (c .before .before .set-ended .ensures) (g .1) in

@@ -9,8 +9,8 @@ use Rattle.act.proofs.flow.jump.Tie as tie
 pub jump-spec : {M : Type 1} → statement M
 jump-spec =
     tie.close (tie.spec
-    (λ c. search needs) (λ c. search needs) (λ c κs. search needs) (λ c κs. search needs)
-    (λ c. passed-goes _ (c .before .t .given .1) (c .before .before .before .pre))
+    (λ c. search needs) (λ c κs. search needs) (λ c. search needs) (λ c κs. search needs) (λ c κs. search needs)
+    (λ d. passed-goes _ (d .before .before .before .t .given .1) (d .stop .ensures))
     (λ c.
     let a = c .before .before in
     let t = a .before .before in

@@ -14,7 +14,7 @@ jump-to-spec =
     let a = c .before .before in
     let f = a .before .before .before in
     let s = f .before .before in
-    jump-24 _ (s .args .t) (s .args .next) _ (f .first .ensures) (a .before .second .ensures) (a .condition-of .ensures) (c .enum-told .given .1) (s .pre) (d .refuse .ensures))
+    jump-24 _ (s .args .t) (s .args .next) _ (f .first .ensures) (a .before .second .ensures) (a .condition-of .ensures) (c .enum-told .given .1) (d .refuse .ensures))
     (λ c.
     let h = c .before .before in
     let a = h .before .before in
@@ -28,7 +28,7 @@ jump-to-spec =
     let f = a .before .before .before in
     let s = f .before .before in
     jump-27 _ _ (s .args .next) _ (f .first .ensures) (a .before .second .ensures) (a .condition-of .ensures) (h .enum-told3 .given .1)
-    (c .enum-told4 .given .1) (s .pre) (d .refuse2 .ensures))
+    (c .enum-told4 .given .1) (d .refuse2 .ensures))
     (λ c.
     let t = c .before .before .before in
     let h = t .before .before in

@@ -9,9 +9,9 @@ use Rattle.act.proofs.painting.clear.Tie as tie
 pub clear-spec : {M : Type 1} → statement M
 clear-spec =
     tie.close (tie.spec
-    (λ c. search needs) (λ c. search needs)
+    (λ c. search needs) (λ c κs. search needs) (λ c. search needs)
     (λ c κs. search needs) (λ c κs. search needs) (λ c κs. search needs)
-    (λ c n. let pre = c .before .before .before .pre in passed-paints _ (c .before .t .given .1) (pre .0) (pre .1))
+    (λ d n. let c = d .before .before in passed-paints _ (c .before .t .given .1) (d .stop .ensures) (c .before .before .before .pre .1))
     (λ c n.
     let m = c .before .before in
     let g = c .finish-painting .ensures in

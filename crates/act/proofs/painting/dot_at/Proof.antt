@@ -1,7 +1,8 @@
 -- `dot_at`: a point outside is 25.
 use mathlib.Core.Path.{refl}
+use native.Mathlib.Omega.{arith}
 use borrow.Author.Needs.{needs}
-use Rattle.act.proofs.Acting.{stays, drawn}
+use Rattle.act.proofs.Acting.{halts, drawn}
 use Rattle.act.proofs.PointLaws.{near, told-outside, told-at}
 use Rattle.act.proofs.painting.dot_at.Statement.{statement}
 use Rattle.act.proofs.painting.dot_at.Tie as tie
@@ -16,7 +17,7 @@ dot-at-spec =
     let at = c .before .before in
     let out = told-outside _ _ (at .point-of .ensures) (c .enum-told .given .1) in
     let pre = at .before .pre in
-    record { cells = pre .0; brush = pre .1; tells = λ b ps vs st. stays _ _ _ _ {n = 25} (rw out) (rw (d .refuse .ensures)) })
+    let h = d .refuse .ensures in record { cells = h .1 .full; brush = pre .1; tells = λ b ps vs st. halts 25 (omega arith) _ _ h b ps vs st _ (rw out) })
     (λ c κs.
     let w = c .before .before in
     let at = w .before .before in

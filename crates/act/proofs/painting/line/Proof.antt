@@ -1,7 +1,8 @@
 -- `line`: a type other than 0 is 24, an end outside 25.
 use mathlib.Core.Path.{refl, sym, _∙_}
+use native.Mathlib.Omega.{arith}
 use borrow.Author.Needs.{needs}
-use Rattle.act.proofs.Acting.{stays, drawn}
+use Rattle.act.proofs.Acting.{halts, drawn}
 use Rattle.act.proofs.Handing.{passed-paints, got-paints}
 use Rattle.act.proofs.PointLaws.{near, near-as, told-outside, told-at}
 use Rattle.act.proofs.painting.line.Statement.{statement}
@@ -10,14 +11,14 @@ use Rattle.act.proofs.painting.line.Tie as tie
 pub line-spec : {M : Type 1} → statement M
 line-spec =
     tie.close (tie.spec
-    (λ c. search needs) (λ c. search needs) (λ c κs. search needs)
+    (λ c. search needs) (λ c κs. search needs) (λ c. search needs) (λ c κs. search needs)
     (λ c κs. search needs)
     (λ d n.
     let c = d .before .before in
     let t = c .before .before .before in
     let pre = t .before .before .pre in
     got-paints _ (t .t2 .given .1)
-    (record { cells = pre .0; brush = pre .1; tells = λ b ps vs st. stays _ _ _ _ {n = 24} (rw (sym (c .before .other-type .ensures) ∙ c .if1 .taken)) (rw (d .refuse .ensures)) }))
+    (let h = d .refuse .ensures in record { cells = h .1 .full; brush = pre .1; tells = λ b ps vs st. halts 24 (omega arith) _ _ h b ps vs st _ (rw (sym (c .before .other-type .ensures) ∙ c .if1 .taken)) }))
     (λ c κs. search needs) (λ c. search needs) (λ c. search needs)
     (λ c κs. search needs)
     (λ d n.
@@ -27,7 +28,7 @@ line-spec =
     let pre = t .before .before .pre in
     let out = told-outside _ _ (first .point-of .ensures) (c .enum-told .given .1) in
     got-paints _ (t .t2 .given .1)
-    (record { cells = pre .0; brush = pre .1; tells = λ b ps vs st. stays _ _ _ _ {n = 25} (rw (sym (first .before .before .other-type .ensures) ∙ first .before .if1 .left, out)) (rw (d .refuse2 .ensures)) }))
+    (let h = d .refuse2 .ensures in record { cells = h .1 .full; brush = pre .1; tells = λ b ps vs st. halts 25 (omega arith) _ _ h b ps vs st _ (rw (sym (first .before .before .other-type .ensures) ∙ first .before .if1 .left, out)) }))
     (λ c κs. search needs) (λ c. search needs) (λ c. search needs)
     (λ c κs. search needs)
     (λ d n.
@@ -39,7 +40,7 @@ line-spec =
     let p = told-at _ _ (first .point-of .ensures) (second .before .before .p .given .1) in
     let out = told-outside _ _ (second .point-of2 .ensures) (c .enum-told2 .given .1) in
     got-paints _ (t .t2 .given .1)
-    (record { cells = pre .0; brush = pre .1; tells = λ b ps vs st. stays _ _ _ _ {n = 25} (rw (sym (first .before .before .other-type .ensures) ∙ first .before .if1 .left, p .0, out)) (rw (d .refuse3 .ensures)) }))
+    (let h = d .refuse3 .ensures in record { cells = h .1 .full; brush = pre .1; tells = λ b ps vs st. halts 25 (omega arith) _ _ h b ps vs st _ (rw (sym (first .before .before .other-type .ensures) ∙ first .before .if1 .left, p .0, out)) }))
     (λ c κs. search needs)
     (λ c κs.
     let w = c .before .before .before .before in
@@ -51,7 +52,7 @@ line-spec =
     let nq = near-as (q .1) (near _ (q .0)) in
     (first .before .before .before .before .before .before .pre .1 .0, (np .0, np .1, nq .0, nq .1)))
     (λ c κs. search needs)
-    (λ c n. let pre = c .before .before .before .pre in passed-paints _ (c .before .t .given .1) (pre .0) (pre .1))
+    (λ d n. let c = d .before .before in passed-paints _ (c .before .t .given .1) (d .stop .ensures) (c .before .before .before .pre .1))
     (λ c n.
     let m = c .before .before in
     let k = m .before in

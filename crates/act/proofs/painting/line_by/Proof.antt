@@ -1,9 +1,10 @@
 -- `line_by`: a type other than 0 is 24, an offset or the end outside 25.
 use mathlib.Core.Path.{refl, sym, _∙_}
+use native.Mathlib.Omega.{arith}
 use borrow.Author.Needs.{needs}
 use Rattle.rules.specs.Opcodes.{point, far}
 use Rattle.rules.proofs.Ranges.{neither}
-use Rattle.act.proofs.Acting.{stays, past}
+use Rattle.act.proofs.Acting.{halts, past}
 use Rattle.act.proofs.Handing.{passed-draws, got-draws}
 use Rattle.act.proofs.PointLaws.{from, near, told-outside, told-at}
 use Rattle.act.proofs.painting.line_by.Statement.{statement}
@@ -12,14 +13,14 @@ use Rattle.act.proofs.painting.line_by.Tie as tie
 pub line-by-spec : {M : Type 1} → statement M
 line-by-spec =
     tie.close (tie.spec
-    (λ c. search needs) (λ c. search needs) (λ c κs. search needs)
+    (λ c. search needs) (λ c κs. search needs) (λ c. search needs) (λ c κs. search needs)
     (λ c κs. search needs)
     (λ d n.
     let c = d .before .before in
     let t = c .before .before .before in
     let pre = t .before .before .pre in
     got-draws _ (t .t2 .given .1)
-    (record { cells = pre .cells; points = pre .points; brush = pre .brush; tells = λ b vs st. stays _ _ _ _ {n = 24} (rw (sym (c .before .other-type .ensures) ∙ c .if1 .taken)) (rw (d .refuse .ensures)) }))
+    (let h = d .refuse .ensures in record { cells = h .1 .full; points = pre .points; brush = pre .brush; tells = λ b vs st. halts 24 (omega arith) _ _ h b (t .before .before .args .points .now) vs st _ (rw (sym (c .before .other-type .ensures) ∙ c .if1 .taken)) }))
     (λ c κs. search needs) (λ c κs. search needs) (λ c. search needs) (λ c. search needs)
     (λ c κs. search needs)
     (λ d n.
@@ -30,7 +31,7 @@ line-by-spec =
     let pre = t .before .before .pre in
     let out = told-outside _ _ (from _ (here .position .ensures) (at .point-by .ensures)) (c .enum-told .given .1) in
     got-draws _ (t .t2 .given .1)
-    (record { cells = pre .cells; points = pre .points; brush = pre .brush; tells = λ b vs st. stays _ _ _ _ {n = 25} (rw (sym (here .before .before .before .other-type .ensures) ∙ here .before .before .if1 .left, out)) (rw (d .refuse2 .ensures)) }))
+    (let h = d .refuse2 .ensures in record { cells = h .1 .full; points = pre .points; brush = pre .brush; tells = λ b vs st. halts 25 (omega arith) _ _ h b (t .before .before .args .points .now) vs st _ (rw (sym (here .before .before .before .other-type .ensures) ∙ here .before .before .if1 .left, out)) }))
     (λ c κs.
     let w = c .before .before .before .before in
     let at = w .before .before in
@@ -38,7 +39,10 @@ line-by-spec =
     let q = told-at _ _ (at .point-by .ensures) (w .q .given .1) in
     let o = t .t2 .given .0 .0 in
     (t .before .before .pre, rw (q .1) (near _ (neither (far (point (o .b) (o .c))) _ (q .0) .1))))
-    (λ c n. let pre = c .before .before .before .pre in passed-draws _ (c .before .t .given .1) (pre .cells) (pre .points) (pre .brush))
+    (λ d n.
+    let c = d .before .before in
+    let pre = c .before .before .before .pre in
+    passed-draws _ (c .before .t .given .1) (d .stop .ensures) (pre .points) (pre .brush))
     (λ c n.
     let w = c .before .before .before .before .before in
     let at = w .before .before in

@@ -9,8 +9,8 @@ use Rattle.act.proofs.painting.pixel.Tie as tie
 pub pixel-spec : {M : Type 1} → statement M
 pixel-spec =
     tie.close (tie.spec
-    (λ c. search needs) (λ c. search needs) (λ c κs. search needs) (λ c κs. search needs)
-    (λ c n. let pre = c .before .before .before .pre in passed-paints _ (c .before .t .given .1) (pre .0) (pre .1))
+    (λ c. search needs) (λ c κs. search needs) (λ c. search needs) (λ c κs. search needs) (λ c κs. search needs)
+    (λ d n. let c = d .before .before in passed-paints _ (c .before .t .given .1) (d .stop .ensures) (c .before .before .before .pre .1))
     (λ c n.
     let k = c .before .before .before in
     let t = k .before .before .before .t2 .given in

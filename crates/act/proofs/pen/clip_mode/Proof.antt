@@ -1,8 +1,9 @@
 -- `clip_mode`: modes above 2 are 24.
 use mathlib.Core.Path.{refl}
+use native.Mathlib.Omega.{arith}
 use borrow.Author.Needs.{needs}
 use borrow.Author.Tests.{lt-ltb, le-ltb}
-use Rattle.act.proofs.Acting.{stays, paints-nothing}
+use Rattle.act.proofs.Acting.{halts, paints-nothing}
 use Rattle.act.proofs.Handing.{passed-goes, got-goes, settled, then}
 use Rattle.act.proofs.pen.clip_mode.Statement.{statement}
 use Rattle.act.proofs.pen.clip_mode.Tie as tie
@@ -10,15 +11,15 @@ use Rattle.act.proofs.pen.clip_mode.Tie as tie
 pub clip-mode-spec : {M : Type 1} → statement M
 clip-mode-spec =
     tie.close (tie.spec
-    (λ c. search needs) (λ c. search needs)
+    (λ c. search needs) (λ c κs. search needs) (λ c. search needs)
     (λ c κs. search needs)
     (λ d n.
     let c = d .before .before in
     let t = c .before .before .before in
     got-goes _ (t .t2 .given .1)
-    (record { cells = t .before .before .pre; tells = λ b ps vs st s. stays _ _ _ s {n = 24} (rw (lt-ltb _ _ (c .if1 .taken))) (rw (d .refuse .ensures)) }))
+    (let h = d .refuse .ensures in record { cells = h .1 .full; tells = λ b ps vs st s. halts 24 (omega arith) _ _ h b ps vs st s (rw (lt-ltb _ _ (c .if1 .taken))) }))
     (λ c κs. search needs) (λ c κs. search needs)
-    (λ c n. passed-goes _ (c .before .t .given .1) (c .before .before .before .pre))
+    (λ d n. passed-goes _ (d .before .before .before .t .given .1) (d .stop .ensures))
     (λ c n.
     let m = c .before .before in
     let low = m .before .before in

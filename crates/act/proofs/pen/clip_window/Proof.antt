@@ -1,8 +1,9 @@
 -- `clip_window`: a corner outside is 25.
 use mathlib.Core.Path.{refl, _∙_}
+use native.Mathlib.Omega.{arith}
 use borrow.Author.Needs.{needs}
 use Rattle.rules.specs.Environment.{windowed}
-use Rattle.act.proofs.Acting.{stays, paints-nothing}
+use Rattle.act.proofs.Acting.{halts, paints-nothing}
 use Rattle.act.proofs.Handing.{passed-moves, got-moves, settled, repointed}
 use Rattle.act.proofs.PointLaws.{told-outside, told-at}
 use Rattle.act.proofs.pen.clip_window.Statement.{statement}
@@ -11,7 +12,7 @@ use Rattle.act.proofs.pen.clip_window.Tie as tie
 pub clip-window-spec : {M : Type 1} → statement M
 clip-window-spec =
     tie.close (tie.spec
-    (λ c. search needs) (λ c. search needs) (λ c κs. search needs) (λ c. search needs) (λ c. search needs)
+    (λ c. search needs) (λ c κs. search needs) (λ c. search needs) (λ c κs. search needs) (λ c. search needs) (λ c. search needs)
     (λ c κs. search needs)
     (λ d n.
     let c = d .before .before in
@@ -19,7 +20,7 @@ clip-window-spec =
     let t = at .before .before in
     let pre = t .before .before .pre in
     let out = told-outside _ _ (at .point-of .ensures) (c .enum-told .given .1) in
-    got-moves _ (t .t2 .given .1) (record { cells = pre .0; points = pre .1; tells = λ b vs st s. stays _ _ _ s {n = 25} (rw out) (rw (d .refuse .ensures)) }))
+    got-moves _ (t .t2 .given .1) (let h = d .refuse .ensures in record { cells = h .1 .full; points = pre .1; tells = λ b vs st s. halts 25 (omega arith) _ _ h b (t .before .before .args .points .now) vs st s (rw out) }))
     (λ c κs. search needs) (λ c. search needs) (λ c. search needs)
     (λ c κs. search needs)
     (λ d n.
@@ -30,9 +31,9 @@ clip-window-spec =
     let pre = t .before .before .pre in
     let p = told-at _ _ (first .point-of .ensures) (second .before .before .p .given .1) in
     let out = told-outside _ _ (second .point-of2 .ensures) (c .enum-told2 .given .1) in
-    got-moves _ (t .t2 .given .1) (record { cells = pre .0; points = pre .1; tells = λ b vs st s. stays _ _ _ s {n = 25} (rw (p .0, out)) (rw (d .refuse2 .ensures)) }))
+    got-moves _ (t .t2 .given .1) (let h = d .refuse2 .ensures in record { cells = h .1 .full; points = pre .1; tells = λ b vs st s. halts 25 (omega arith) _ _ h b (t .before .before .args .points .now) vs st s (rw (p .0, out)) }))
     (λ c κs. search needs) (λ c κs. search needs) (λ c κs. search needs)
-    (λ c n. let pre = c .before .before .before .pre in passed-moves _ (c .before .t .given .1) (pre .0) (pre .1))
+    (λ d n. let c = d .before .before in passed-moves _ (c .before .t .given .1) (d .stop .ensures) (c .before .before .before .pre .1))
     (λ c n.
     let m = c .before .before in
     let w = m .before in

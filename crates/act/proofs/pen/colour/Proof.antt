@@ -9,8 +9,8 @@ use Rattle.act.proofs.pen.colour.Tie as tie
 pub colour-spec : {M : Type 1} → statement M
 colour-spec =
     tie.close (tie.spec
-    (λ c. search needs) (λ c. search needs) (λ c κs. search needs) (λ c κs. search needs) (λ c κs. search needs)
-    (λ c n. passed-goes _ (c .before .t .given .1) (c .before .before .before .pre))
+    (λ c. search needs) (λ c κs. search needs) (λ c. search needs) (λ c κs. search needs) (λ c κs. search needs) (λ c κs. search needs)
+    (λ d n. passed-goes _ (d .before .before .before .t .given .1) (d .stop .ensures))
     (λ c n.
     let g = then (rw (c .before .before .before .low8 .ensures) at (c .before .before .set-colour .ensures)) (c .finish .ensures .1) in
     got-goes _ (c .before .before .before .before .before .before .t2 .given .1)

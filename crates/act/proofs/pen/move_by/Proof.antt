@@ -1,8 +1,9 @@
 -- `move_by`: an offset or a sum outside is 25.
 use mathlib.Core.Path.{refl}
+use native.Mathlib.Omega.{arith}
 use borrow.Author.Needs.{needs}
 use Rattle.rules.specs.Environment.{moved}
-use Rattle.act.proofs.Acting.{stays, paints-nothing}
+use Rattle.act.proofs.Acting.{halts, paints-nothing}
 use Rattle.act.proofs.Handing.{passed-moves, got-moves, settled, repointed}
 use Rattle.act.proofs.PointLaws.{from, told-outside, told-at}
 use Rattle.act.proofs.pen.move_by.Statement.{statement}
@@ -11,7 +12,7 @@ use Rattle.act.proofs.pen.move_by.Tie as tie
 pub move-by-spec : {M : Type 1} → statement M
 move-by-spec =
     tie.close (tie.spec
-    (λ c. search needs) (λ c. search needs) (λ c κs. search needs) (λ c κs. search needs) (λ c. search needs) (λ c. search needs)
+    (λ c. search needs) (λ c κs. search needs) (λ c. search needs) (λ c κs. search needs) (λ c κs. search needs) (λ c. search needs) (λ c. search needs)
     (λ c κs. search needs)
     (λ d n.
     let c = d .before .before in
@@ -19,9 +20,9 @@ move-by-spec =
     let t = at .before .before .before .before in
     let pre = t .before .before .pre in
     let out = told-outside _ _ (from _ (at .before .position .ensures) (at .point-by .ensures)) (c .enum-told .given .1) in
-    got-moves _ (t .t2 .given .1) (record { cells = pre .0; points = pre .1; tells = λ b vs st s. stays _ _ _ s {n = 25} (rw out) (rw (d .refuse .ensures)) }))
+    got-moves _ (t .t2 .given .1) (let h = d .refuse .ensures in record { cells = h .1 .full; points = pre .1; tells = λ b vs st s. halts 25 (omega arith) _ _ h b (t .before .before .args .points .now) vs st s (rw out) }))
     (λ c κs. search needs) (λ c κs. search needs)
-    (λ c n. let pre = c .before .before .before .pre in passed-moves _ (c .before .t .given .1) (pre .0) (pre .1))
+    (λ d n. let c = d .before .before in passed-moves _ (c .before .t .given .1) (d .stop .ensures) (c .before .before .before .pre .1))
     (λ c n.
     let m = c .before .before in
     let w = m .before .before .before in

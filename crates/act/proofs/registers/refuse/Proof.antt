@@ -4,4 +4,9 @@ use Rattle.act.proofs.registers.refuse.Statement.{statement}
 use Rattle.act.proofs.registers.refuse.Tie as tie
 
 pub refuse-spec : {M : Type 1} → statement M
-refuse-spec = tie.close (tie.spec (λ c κs. search needs) (λ c. rw (c .counter .ensures)))
+refuse-spec =
+    tie.close
+    (tie.spec
+    (λ c κs. search needs)
+    (λ c κs. search needs)
+    (λ c. rw (c .before .before .counter .ensures) at (c .stop .ensures)))

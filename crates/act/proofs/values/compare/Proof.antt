@@ -12,10 +12,10 @@ use Rattle.act.proofs.values.compare.Tie as tie
 pub compare-spec : {M : Type 1} → statement M
 compare-spec =
     tie.close (tie.spec
-    (λ c. search needs) (λ c. search needs)
+    (λ c. search needs) (λ c κs. search needs) (λ c. search needs)
     (λ c κs. let t = c .before .before in destined (t .t2 .given .1) (t .before .before .pre .0))
     (λ c κs. search needs) (λ c κs. search needs)
-    (λ c n. passed-sets _ (c .before .t .given .1) (c .before .before .before .pre .1))
+    (λ d n. passed-sets _ (d .before .before .before .t .given .1) (d .stop .ensures))
     (λ c n.
     let a = c .before .before .before in
     let t = a .before .before .before in

@@ -11,7 +11,7 @@ put-unless-zero-spec =
     (λ d v is.
     let c = d .before .before in
     let s = c .before .before in
-    by-zero (s .args .o) (s .args .next) v is (c .enum-told .given .1) (s .pre .1) (d .refuse .ensures))
+    by-zero (s .args .o) (s .args .next) v is (c .enum-told .given .1) (d .refuse .ensures))
     (λ c v is.
     let t = c .before .before .before .before in
     let s = t .before .before .args in

@@ -9,14 +9,14 @@ use Rattle.act.proofs.values.remainder.Tie as tie
 pub remainder-spec : {M : Type 1} → statement M
 remainder-spec =
     tie.close (tie.spec
-    (λ c. search needs) (λ c. search needs)
+    (λ c. search needs) (λ c κs. search needs) (λ c. search needs)
     (λ c κs. let t = c .before .before in destined (t .t2 .given .1) (t .before .before .pre .0))
     (λ c κs. search needs)
     (λ c κs.
     let t = c .before .before .before .before .before .before in
     let p = t .before .before .pre in
     (destined (t .t2 .given .1) (p .0), p .1))
-    (λ c n. passed-sets _ (c .before .t .given .1) (c .before .before .before .pre .1))
+    (λ d n. passed-sets _ (d .before .before .before .t .given .1) (d .stop .ensures))
     (λ c n.
     let a = c .before .before .before in
     let t = a .before .before .before .before in

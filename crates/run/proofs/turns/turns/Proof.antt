@@ -17,7 +17,7 @@ use Rattle.rules.specs.Step.{afgis}
 use Rattle.rules.proofs.Ranges.{parted}
 use Rattle.act.specs.Lent.{look}
 use Rattle.run.specs.Turns.{Ready}
-use Rattle.run.proofs.Stepping.{running, not-running, leaves-fits, told-refusal, may-draw, stopped-left}
+use Rattle.run.proofs.Stepping.{running, not-running, leaves-fits, may-draw}
 use Rattle.run.proofs.turns.turns.Statement.{statement}
 use Rattle.run.proofs.turns.turns.Tie as tie
 
@@ -59,20 +59,17 @@ step-requires c κs =
 
 returns-2 : tie.Need-returns-2 Inv-loop μ-loop
 returns-2 c =
-    let u = c .before .before .before in
-    let d = u .before .before in
+    let d = c .before .before in
     let f = d .before .before .before .before .before .before in
     let t = f .before .before .before in
     let i = t .before .loop in
     let a = t .before .before .before .before .args in
-    let b = a .b in
     let z = d .step .last .1 in
-    let before = look b (i .cells) (i .points) (i .vars) (i .stack) in
-    let after = look b (z .0) (z .1 .0) (z .1 .1 .0) (z .1 .1 .1 .0) in
-    let shows = not-carried-out (afgis (a .words .now)) frame before (i .screen) after (z .1 .1 .1 .1 .0) (d .step .ensures .tells b) (u .upshot .given .1) in
-    let range = told-refusal _ (i .inv .ready .few) before (i .inv .ready .ranges) _ _ shows in
-    stopped-left after _ (c .set-state .ensures .shows b (z .1 .0) (z .1 .1 .0) (z .1 .1 .1 .0)) range _ (i .steps)
-    ∙ stop _ _ (i .steps) _ (i .screen) _ (i .inv .same) _ _ (t .loop-test .taken) (running _ (parted before (i .inv .ready .ranges) .3) (sym (f .before .state .ensures) ∙ f .if1 .left)) shows
+    let before = look (a .b) (i .cells) (i .points) (i .vars) (i .stack) in
+    let after = look (a .b) (z .0) (z .1 .0) (z .1 .1 .0) (z .1 .1 .1 .0) in
+    stop (afgis (a .words .now)) _ (i .steps) before (i .screen) _ (i .inv .same) (λ v e. refl) after (t .loop-test .taken)
+    (running _ (parted before (i .inv .ready .ranges) .3) (sym (f .before .state .ensures) ∙ f .if1 .left))
+    (not-carried-out (afgis (a .words .now)) frame before (i .screen) after (z .1 .1 .1 .1 .0) (d .step .ensures .tells (a .b)) (c .enum-told3 .given .1))
 
 paint-requires : tie.Need-paint-requires Inv-loop μ-loop
 paint-requires c κs =
@@ -158,8 +155,7 @@ turns-spec =
     (λ c κs. search needs)
     paint-requires
     (λ c. search needs)
-    (λ c κs. c .before .before .before .before .step .ensures .cells)
-    (λ c. c .before .before .before .before .before .before .before .before .before .before .before .before .before .before .before .loop .inv .as-long)
+    (λ c. c .before .before .before .before .before .before .before .before .before .before .before .before .loop .inv .as-long)
     returns-2
     add-steps
     (λ c. omega arith)
