@@ -16,7 +16,7 @@ use Rattle.rules.specs.Opcodes.{Rule}
 use Rattle.fetch.specs.declared.source.Taken.{Taken}
 use Rattle.fetch.specs.declared.source.Taken.the-variants.{Refused, Got}
 use Rattle.fetch.specs.Stages.{Destined}
-use Rattle.act.specs.Lent.{look, CellsFull, PointsFull, Recelled, Repointed}
+use Rattle.act.specs.Lent.{look, PointsFull, Recelled, Repointed}
 use Rattle.act.specs.Shown.{seen, does, answers}
 use Rattle.act.specs.Contracts.{Halts, Goes, Sets, Stacks, Moves, Paints, Draws, Brushed}
 

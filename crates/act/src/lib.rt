@@ -1,4 +1,5 @@
-// What was fetched is carried out, or refused with one of 24 to 29 where the opcode begins, and nothing changed.
+// What was fetched is carried out, or refused: with 22 or 23 as it was fetched, or with one of 24 to 29 where the opcode begins.
+// Then the state has the refusal, and nothing else is changed.
 pub mod registers; // the registers, lent as two arrays
 pub mod stack; // the stacked returns, lent as an array
 pub mod values; // variables and the values compared

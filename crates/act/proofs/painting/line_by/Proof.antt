@@ -1,5 +1,5 @@
 -- `line_by`: a type other than 0 is 24, an offset or the end outside 25.
-use mathlib.Core.Path.{refl, sym, _∙_}
+use mathlib.Core.Path.{sym, _∙_}
 use native.Mathlib.Omega.{arith}
 use borrow.Author.Needs.{needs}
 use Rattle.rules.specs.Opcodes.{point, far}

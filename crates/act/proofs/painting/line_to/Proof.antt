@@ -1,5 +1,5 @@
 -- `line_to`: a type other than 0 is 24, an end outside 25.
-use mathlib.Core.Path.{refl, sym, _∙_}
+use mathlib.Core.Path.{sym, _∙_}
 use native.Mathlib.Omega.{arith}
 use borrow.Author.Needs.{needs}
 use Rattle.act.proofs.Acting.{halts, past}
