@@ -28,6 +28,18 @@ fn verdict_of(s: State) -> Verdict
     }
 }
 
+// Refused at the door: all is as it was.
+fn refused(number: u8, env: Env) -> Answer
+    ensures { λ a. ⌜ a ≡ record { number = number; place = record { 0 = 0 }; env = env; steps = 0 } ⌝ }
+{
+    Answer {
+        number,
+        place: WordIndex(0),
+        env,
+        steps: 0,
+    }
+}
+
 pub fn run(list: &[u16], screen: &mut [u8], env: Env, budget: u32) -> Answer
     ensures { λ a. ⌜ Promise (now (list .entry)) (now (screen .entry)) env budget a (now (screen .exit)) ⌝ }
 {
@@ -38,12 +50,7 @@ pub fn run(list: &[u16], screen: &mut [u8], env: Env, budget: u32) -> Answer
     let mut stack = numbers_of(returns);
     let d = door(list.len(), screen.len(), b, r, &stack, budget);
     if d != 0 {
-        return Answer {
-            number: d,
-            place: WordIndex(0),
-            env,
-            steps: 0,
-        };
+        return refused(d, env);
     }
     let mut cells = cells_of(r);
     let mut points = points_of(r);

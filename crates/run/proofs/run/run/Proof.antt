@@ -24,8 +24,9 @@ said c =
 
 returns : tie.Need-returns
 returns c =
-    let a = c .before .before .before .before .before .before .before .before .before .before .args in
-    refused-whole machine (record { list = a .list .now; budget = a .budget }) (held (a .env)) (a .screen .now) _ (said (c .before)) (c .if1 .taken)
+    let d = c .before in
+    let a = d .before .before .before .before .before .before .before .before .before .before .args in
+    rw (c .refused .ensures) (refused-whole machine (record { list = a .list .now; budget = a .budget }) (held (a .env)) (a .screen .now) _ (said (d .before)) (d .if1 .taken))
 
 -- what is lent to the loop stands for the environment
 same : (c : tie.After-turns-arg) → let e = c .before .before .before .before .before .before .before .before .before .before .before .before .before .before .before .before .before .args .env in
@@ -67,6 +68,7 @@ run-spec =
     (tie.spec
     (λ c κs. search needs)
     (λ c κs. c .before .numbers-of .ensures .1)
+    (λ c κs. search needs)
     returns
     (λ c κs. search needs)
     (λ c κs. search needs)
