@@ -3,5 +3,6 @@ pub mod Lent
 pub mod Shown
 pub mod Contracts
 pub mod Conditions
+pub mod Aims
 pub mod Calculations
 pub mod Point

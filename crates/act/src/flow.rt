@@ -28,6 +28,7 @@ ghost use Rattle.rules.specs.Opcodes.{jumps, calls, rule};
 ghost use Rattle.act.specs.Lent.{CellsFull};
 ghost use Rattle.act.specs.Shown.{does, answers};
 ghost use Rattle.act.specs.Conditions as Conditions;
+ghost use Rattle.act.specs.Aims as Aims;
 ghost use Rattle.act.specs.Contracts.{Goes, Stacks, Stacked};
 
 pub enum Condition {
@@ -58,19 +59,38 @@ fn condition_of(k: u32, first: u32, second: u32) -> Condition
     }
 }
 
+// How a jump gives its target: its bit address, or the offset in words from the next opcode.
+enum Aim {
+    Address,
+    Offset,
+}
+
+// Where that is.
+fn aimed(aim: Aim, n: u32, next: WordIndex, count: u32) -> Target
+    ensures { λ t. ⌜ t ≡ Aims.aimed aim n next count ⌝ }
+{
+    match aim {
+        Aim::Address => word_at(BitAddress(n), count),
+        Aim::Offset => word_from(next, n, count),
+    }
+}
+
 // A jump on condition k: one not taken does not look at its target.
-fn jump_to(k: u32, t: Target, next: WordIndex, cells: &mut Cells) -> Upshot
+fn jump_to(k: u32, aim: Aim, n: u32, next: WordIndex, count: u32, cells: &mut Cells) -> Upshot
     requires { ⌜ CellsFull (now cells) ⌝ }
-    ensures { λ q. ⌜ Goes q (does (jumps k t) next) (now (cells .entry)) (now (cells .exit)) ⌝ }
+    ensures { λ q. ⌜ Goes q (does (jumps k (Aims.aimed aim n next count)) next) (now (cells .entry)) (now (cells .exit)) ⌝ }
 {
     let c = condition_of(k, first(&*cells), second(&*cells));
     match c {
         Condition::NotAllowed => refuse(cells, 24),
         Condition::Unmet => finish(cells, next),
-        Condition::Met => match t {
-            Target::Refused => refuse(cells, 27),
-            Target::At(i) => finish(cells, i),
-        },
+        Condition::Met => {
+            let t = aimed(aim, n, next, count);
+            match t {
+                Target::Refused => refuse(cells, 27),
+                Target::At(i) => finish(cells, i),
+            }
+        }
     }
 }
 
@@ -81,7 +101,7 @@ pub fn jump(t: Taken, count: u32, cells: &mut Cells) -> Upshot
 {
     match t {
         Taken::Refused(n, i) => stop(cells, n, i),
-        Taken::Got(o, next) => jump_to(o.a, word_at(BitAddress(o.b), count), next, cells),
+        Taken::Got(o, next) => jump_to(o.a, Aim::Address, o.b, next, count, cells),
     }
 }
 
@@ -92,7 +112,7 @@ pub fn jump_by(t: Taken, count: u32, cells: &mut Cells) -> Upshot
 {
     match t {
         Taken::Refused(n, i) => stop(cells, n, i),
-        Taken::Got(o, next) => jump_to(o.a, word_from(next, o.b, count), next, cells),
+        Taken::Got(o, next) => jump_to(o.a, Aim::Offset, o.b, next, count, cells),
     }
 }
 
