@@ -1,5 +1,5 @@
 -- A run of any player, turn by turn, as a loop holds it: R is the answer of the whole, k of its b opcodes are carried out.
-use Prim.Native.Nat.{ℕ, suc, _+_, _-_, _<_, _≤_}
+use Prim.Native.Nat.{ℕ, zero, suc, _+_, _-_, _<_, _≤_}
 use mathlib.Core.Path.{_≡_, refl, sym, ap, ap₂, _∙_}
 use mathlib.Core.Bool.{false}
 use mathlib.Core.List.{List}
@@ -66,16 +66,21 @@ module _ {E : Type 0} (P : Player E) where
     pub not-carried-out : u ≡ Refused → halted e₁ ≡ shown (P .stop) (P .step e) e
     not-carried-out is = rw is at as-shown
 
+module _ {E : Type 0} (P : Player E) (e : E) (s : List ℕ) (k : ℕ) where
+  at-rest : (q : State) → P .state e ≡ q → (q ≡ Running → ⊥) → (on : Answer E) → answer (verdictOf (P .state e)) e s k ≡ by-state P (P .state e) e s k on
+  at-rest Running h n on = absurd (n refl)
+  at-rest Ended h n on = rw h
+  at-rest (Stopped v) h n on = rw h
+
+  -- a state that does not run answers its verdict, whatever is left of the budget
+  rests : (left : ℕ) → (P .state e ≡ Running → ⊥) → answer (verdictOf (P .state e)) e s k ≡ runs P left e s k
+  unfolding runs
+  rests zero n = at-rest (P .state e) refl n _
+  rests (suc left) n = at-rest (P .state e) refl n _
+
 module _ {E : Type 0} (P : Player E) (left : ℕ) (e : E) (s : List ℕ) (k : ℕ) where
   abbrev turn : State → Outcome E → Answer E
   turn q o = by-state P q e s k (by-opcode P o e s k (λ e' s' j. runs P left e' s' j))
-
-  -- a state that does not run answers its verdict
-  rests : (q : State) → P .state e ≡ q → (q ≡ Running → ⊥) → answer (verdictOf (P .state e)) e s k ≡ runs P (suc left) e s k
-  unfolding runs
-  rests Running h n = absurd (n refl)
-  rests Ended h n = rw h
-  rests (Stopped v) h n = rw h
 
   -- an opcode that is carried out: the run goes on from what it shows
   goes : (e₁ : E) (m : Marks) → P .state e ≡ Running → (o : Outcome E) → P .step e ≡ o → went e₁ m ≡ shown (P .stop) o e
@@ -104,8 +109,8 @@ module _ {E : Type 0} (P : Player E) (b k : ℕ) (e : E) (s : List ℕ) (R : Ans
   more : k < b → R ≡ runs P (suc (b - (k + 1))) e s k
   more h = at ∙ ap (λ (n : ℕ). runs P n e s k) (one-less b k h)
 
-  pub rest : k < b → (P .state e ≡ Running → ⊥) → answer (verdictOf (P .state e)) e s k ≡ R
-  rest h n = rests P (b - (k + 1)) e s k (P .state e) refl n ∙ sym (more h)
+  pub rest : (P .state e ≡ Running → ⊥) → answer (verdictOf (P .state e)) e s k ≡ R
+  rest n = rests P e s k (b - k) n ∙ sym at
 
   pub go-on : (e₁ : E) (s₁ : List ℕ) → Turned P e s e₁ s₁ → k < b → P .state e ≡ Running → R ≡ runs P (b - (k + 1)) e₁ s₁ (k + 1)
   go-on e₁ s₁ t h q =

@@ -15,7 +15,7 @@ ghost use Rattle.rules.specs.Step.{afgis};
 ghost use Rattle.act.specs.Lent.{look};
 ghost use Rattle.run.specs.Turns.{Ready, left};
 
-// How many were carried out.
+// How many were carried out. The state is asked as the run begins and behind each opcode, so it runs wherever the loop is.
 pub fn turns(
     words: &[u16],
     b: Bounds,
@@ -32,11 +32,11 @@ pub fn turns(
         ≡ runs (afgis (now (words .entry))) budget
         (look b (now (cells .entry)) (now (points .entry)) (now (vars .entry)) (now (stack .entry))) (now (screen .entry)) 0 ⌝ }
 {
+    if state(&*cells) != 0 {
+        return 0;
+    }
     let mut steps: u32 = 0;
     while steps < budget {
-        if state(&*cells) != 0 {
-            return steps;
-        }
         let mut brush: Brush = [0; 6];
         let upshot = step(words, cells, points, vars, stack, &mut brush);
         match upshot {
@@ -45,6 +45,9 @@ pub fn turns(
             Upshot::Refused => return steps,
         }
         steps += 1;
+        if state(&*cells) != 0 {
+            return steps;
+        }
     }
     steps
 }
