@@ -3,13 +3,12 @@
 use Prim.Native.Nat.{ℕ, _+_, _<_, _≤_}
 use mathlib.Core.Path.{_≡_, refl, ap}
 use mathlib.Core.Bool.{Bool, true, false, cond}
-use mathlib.Core.Logic.{_⊎_, inl, inr}
 use mathlib.Core.List.{List, [], _∷_, _++_}
 use native.Mathlib.Omega.{arith}
-use lib.Dec.{ltb, leb}
+use lib.Dec.{ltb, leb, eqb}
 use lib.ListN.{length}
 use borrow.Author.Tests.{ltb-true, ltb-false}
-use Rattle.player.specs.Player.{fault, Outcome, done, refused}
+use Rattle.player.specs.Player.{Outcome, done, refused}
 use Rattle.rules.specs.Types.{WordIndex}
 use Rattle.rules.specs.Meaning.{Meaning, meaning}
 use Rattle.rules.specs.Table.{formOf}
@@ -65,14 +64,11 @@ module _ (w : List ℕ) (pc : ℕ) where
 module _ (at pc : WordIndex) where
   abbrev pub Placed : Outcome Env → Type 0
   Placed (done e p) = Unit {0}
-  Placed (refused v) = (v ≡ fault 23 at) ⊎ (v .place ≡ pc)
+  Placed (refused v) = v .place ≡ cond (eqb (v .number) 23) at pc
 
-  checked : (n : ℕ) (i : WordIndex) (t : Bool) (x : Outcome Env) → Placed (refused (fault n i)) → Placed x → Placed (check n i t x)
-  checked n i true x h k = h
-  checked n i false x h k = k
-
-  here : (n : ℕ) (t : Bool) (x : Outcome Env) → Placed x → Placed (check n pc t x)
-  here n t x k = checked n pc t x (inr refl) k
+  checked : (n : ℕ) (i : WordIndex) → i ≡ cond (eqb n 23) at pc → (t : Bool) (x : Outcome Env) → Placed x → Placed (check n i t x)
+  checked n i h true x k = h
+  checked n i h false x k = k
 
 module _ (w : List ℕ) (e : Env) where
   abbrev pc : WordIndex
@@ -82,16 +78,16 @@ module _ (w : List ℕ) (e : Env) where
   unfolding carried
   by-meaning m r =
       let i = misnaming m w pc in
-      here i pc 20 (leb (length w) (pc .0)) _
-      (here i pc 21 (unknown m) _
-      (here i pc 22 (cut m w (pc .0)) _
-      (checked i pc 23 i (misnamed m w (pc .0)) _ (inl refl)
-      (here i pc 24 (r .breaks 24) _
-      (here i pc 25 (r .breaks 25) _
-      (here i pc 26 (r .breaks 26) _
-      (here i pc 27 (r .breaks 27) _
-      (here i pc 28 (r .breaks 28) _
-      (here i pc 29 (r .breaks 29) _ tt)))))))))
+      checked i pc 20 pc refl (leb (length w) (pc .0)) _
+      (checked i pc 21 pc refl (unknown m) _
+      (checked i pc 22 pc refl (cut m w (pc .0)) _
+      (checked i pc 23 i refl (misnamed m w (pc .0)) _
+      (checked i pc 24 pc refl (r .breaks 24) _
+      (checked i pc 25 pc refl (r .breaks 25) _
+      (checked i pc 26 pc refl (r .breaks 26) _
+      (checked i pc 27 pc refl (r .breaks 27) _
+      (checked i pc 28 pc refl (r .breaks 28) _
+      (checked i pc 29 pc refl (r .breaks 29) _ tt)))))))))
 
   pub placed : Placed (misnaming (meaning (formOf (at w (pc .0)))) w pc) pc (step w e)
   unfolding step
