@@ -121,11 +121,8 @@ module _ {E : Type 0} (P : Player E) (b k : ℕ) (e : E) (s : List ℕ) (R : Ans
   pub stop : Stops P → (e₁ : E) → k < b → P .state e ≡ Running → halted e₁ ≡ shown (P .stop) (P .step e) e → answer (verdictOf (P .state e₁)) e₁ s k ≡ R
   stop told e₁ h q d = sym (more h ∙ stops P (b - (k + 1)) e s k told e₁ q (P .step e) refl d)
 
-  pub used-up : b ≤ k → answer (verdictOf (P .state e)) e s k ≡ R
+  pub used-up : b ≤ k → P .state e ≡ Running → answer (verdictOf (P .state e)) e s k ≡ R
   unfolding runs
-  used-up h = at-state (P .state e) refl ∙ sym (at ∙ ap (λ (n : ℕ). runs P n e s k) (none-left b k h))
-    where
-      at-state : (q : State) → P .state e ≡ q → answer (verdictOf (P .state e)) e s k ≡ runs P 0 e s k
-      at-state Running q = rw q
-      at-state Ended q = rw q
-      at-state (Stopped v) q = rw q
+  used-up h q =
+      let spent : answer (verdictOf (P .state e)) e s k ≡ runs P 0 e s k = rw q in
+      spent ∙ sym (at ∙ ap (λ (n : ℕ). runs P n e s k) (none-left b k h))

@@ -201,4 +201,4 @@ turns-spec =
     (λ c. omega arith)
     loop-again
     (λ c. c .before .loop .inv .0 .as-long)
-    (λ c. let i = c .before .loop in used-up _ _ (i .steps) _ (i .screen) _ (i .inv .0 .same) (c .loop-test .left)))
+    (λ c. let i = c .before .loop in used-up _ _ (i .steps) _ (i .screen) _ (i .inv .0 .same) (c .loop-test .left) (i .inv .1)))
