@@ -12,10 +12,10 @@ use Rattle.player.specs.declared.Upshot.{Upshot}
 use Rattle.player.specs.declared.Upshot.the-variants.{Quiet}
 use Rattle.rules.specs.Conditions.{allowed, met}
 use Rattle.rules.specs.Environment.{Env, goto}
-use Rattle.rules.specs.Opcodes.{jumps}
+use Rattle.rules.specs.Opcodes.{Rule, jumps}
 use Rattle.act.specs.declared.flow.Condition.{Condition}
 use Rattle.act.specs.declared.flow.Condition.the-variants.{NotAllowed, Met, Unmet}
-use Rattle.act.specs.Lent.{celled, Recelled}
+use Rattle.act.specs.Lent.{celled, look, Recelled}
 use Rattle.act.specs.Shown.{does}
 use Rattle.act.specs.Conditions.{meeting, conditionOf}
 use Rattle.act.specs.Contracts.{HaltsHere, Goes}
@@ -37,32 +37,34 @@ judged k x y is p = rw (sym p ∙ is) (go (allowed k) (met k (signed32 x) (signe
     go true false p q = (p, q)
     go false h p q = p
 
--- c answers condition k on the cells' two values
-module _ (k : ℕ) (t : Target) (next : WordIndex) (cs : List ℕ) {x y : ℕ} {c : Condition} (px : x ≡ celled cs .first) (py : y ≡ celled cs .second) (is : c ≡ conditionOf k x y) where
+-- c answers condition k on the cells' two values; T is where the target is, by the environment at the next opcode
+module _ (k : ℕ) (T : Env → Target) (next : WordIndex) (cs : List ℕ) {x y : ℕ} {c : Condition} (px : x ≡ celled cs .first) (py : y ≡ celled cs .second) (is : c ≡ conditionOf k x y) where
+  abbrev jump : Env → Rule
+  jump e = jumps k (T e) e
+
   asked : {d : Condition} → c ≡ d → Judged d k (celled cs .first) (celled cs .second)
   asked p = rw (← px, ← py) (judged k x y is p)
 
   module _ {u : Upshot} {cs' : List ℕ} where
-    pub jump-24 : c ≡ NotAllowed → HaltsHere 24 u cs cs' → Goes u (does (jumps k t) next) cs cs'
-    jump-24 p h = record { cells = h .1 .full; tells = λ b ps vs st s. halts 24 (omega arith) (jumps k t) next h b ps vs st s (rw (asked p)) }
+    pub jump-24 : c ≡ NotAllowed → HaltsHere 24 u cs cs' → Goes u (does jump next) cs cs'
+    jump-24 p h = record { cells = h .1 .full; tells = λ b ps vs st s. halts 24 (omega arith) jump next h b ps vs st s (rw (asked p)) }
 
-    pub jump-27 : c ≡ Met → t ≡ Refused → HaltsHere 27 u cs cs' → Goes u (does (jumps k t) next) cs cs'
+    pub jump-27 : c ≡ Met → ((e : Env) → T (goto next e) ≡ Refused) → HaltsHere 27 u cs cs' → Goes u (does jump next) cs cs'
     jump-27 p m h =
         let j = asked p in
-        record { cells = h .1 .full; tells = λ b ps vs st s. halts 27 (omega arith) (jumps k t) next h b ps vs st s (rw (j .0, j .1, m)) }
+        record { cells = h .1 .full; tells = λ b ps vs st s. halts 27 (omega arith) jump next h b ps vs st s (rw (j .0, j .1, m (look b cs ps vs st))) }
 
-    pub jump-no : c ≡ Unmet → (u ≡ Quiet) × Recelled (goto next) cs cs' → Goes u (does (jumps k t) next) cs cs'
+    pub jump-no : c ≡ Unmet → (u ≡ Quiet) × Recelled (goto next) cs cs' → Goes u (does jump next) cs cs'
     jump-no p g =
         let j = asked p in
         record { cells = g .1 .full; tells = λ b ps vs st s. paints-nothing _ _ _ s (rw (j .0, j .1)) refl (rw (j .1) (settled s (g .0) (g .1 .shows b ps vs st))) }
 
-    pub jump-at : c ≡ Met → {i : WordIndex} → t ≡ At i → (u ≡ Quiet) × Recelled (goto i) cs cs' → Goes u (does (jumps k t) next) cs cs'
+    pub jump-at : c ≡ Met → {i : WordIndex} → ((e : Env) → T (goto next e) ≡ At i) → (u ≡ Quiet) × Recelled (goto i) cs cs' → Goes u (does jump next) cs cs'
     jump-at p m g =
         let j = asked p in
-        record { cells = g .1 .full; tells = λ b ps vs st s. paints-nothing _ _ _ s (rw (j .0, j .1, m)) refl (rw (j .1, m) (settled s (g .0) (g .1 .shows b ps vs st))) }
-
--- the target t is what T makes of the environment at the next opcode
-pub jump-aimed : (k : ℕ) {t : Target} (next : WordIndex) (T : Env → Target) → ((e : Env) → t ≡ T (goto next e)) → {u : Upshot} {cs cs' : List ℕ}
-    → Goes u (does (jumps k t) next) cs cs' → Goes u (does (λ e. jumps k (T e) e) next) cs cs'
-unfolding does
-jump-aimed k next T is p = record { cells = p .cells; tells = λ b ps vs st s. rw (← is _) (p .tells b ps vs st s) }
+        record {
+          cells = g .1 .full;
+          tells = λ b ps vs st s.
+              let t = m (look b cs ps vs st) in
+              paints-nothing _ _ _ s (rw (j .0, j .1, t)) refl (rw (j .1, t) (settled s (g .0) (g .1 .shows b ps vs st)));
+        }

@@ -24,6 +24,7 @@ use rules::opcode::Operands;
 ghost use mathlib.Core.Path.{_≡_};
 ghost use Prim.Native.Nat.{ℕ};
 ghost use Rattle.rules.specs.Op as Op;
+ghost use Rattle.rules.specs.Environment.{Env, goto};
 ghost use Rattle.rules.specs.Opcodes.{jumps, calls, rule};
 ghost use Rattle.act.specs.Lent.{CellsFull};
 ghost use Rattle.act.specs.Shown.{does, answers};
@@ -67,7 +68,7 @@ enum Aim {
 
 // Where that is.
 fn aimed(aim: Aim, n: u32, next: WordIndex, count: u32) -> Target
-    ensures { λ t. ⌜ t ≡ Aims.aimed aim n next count ⌝ }
+    ensures { λ t. ⌜ ((e : Env) → t ≡ Aims.aimed aim n count (goto next e)) ⌝ }
 {
     match aim {
         Aim::Address => word_at(BitAddress(n), count),
@@ -78,7 +79,7 @@ fn aimed(aim: Aim, n: u32, next: WordIndex, count: u32) -> Target
 // A jump on condition k: one not taken does not look at its target.
 fn jump_to(k: u32, aim: Aim, n: u32, next: WordIndex, count: u32, cells: &mut Cells) -> Upshot
     requires { ⌜ CellsFull (now cells) ⌝ }
-    ensures { λ q. ⌜ Goes q (does (jumps k (Aims.aimed aim n next count)) next) (now (cells .entry)) (now (cells .exit)) ⌝ }
+    ensures { λ q. ⌜ Goes q (does (λ e. jumps k (Aims.aimed aim n count e) e) next) (now (cells .entry)) (now (cells .exit)) ⌝ }
 {
     let c = condition_of(k, first(&*cells), second(&*cells));
     match c {

@@ -9,5 +9,5 @@ aimed-spec =
     (tie.spec
     (λ c. search needs) (λ c κs. search needs)
     (λ c. search needs) (λ c κs. search needs)
-    (λ c. rw (c .before .enum-told .given .1) (c .word-at .ensures))
-    (λ c. rw (c .before .enum-told2 .given .1) (c .word-from .ensures)))
+    (λ c e. rw (c .before .enum-told .given .1) (c .word-at .ensures))
+    (λ c e. rw (c .before .enum-told2 .given .1) (c .word-from .ensures)))

@@ -16,14 +16,14 @@ jump-to-spec =
     let a = c .before .before in
     let f = a .before .before .before in
     let g = f .before .before .args in
-    jump-24 _ (aimed (g .aim) (g .n) (g .next) (g .count)) (g .next) _ (f .first .ensures) (a .before .second .ensures) (a .condition-of .ensures)
+    jump-24 _ (aimed (g .aim) (g .n) (g .count)) (g .next) _ (f .first .ensures) (a .before .second .ensures) (a .condition-of .ensures)
     (c .enum-told .given .1) (d .refuse .ensures))
     (λ c.
     let h = c .before .before in
     let a = h .before .before in
     let f = a .before .before .before in
     let g = f .before .before .args in
-    jump-no _ (aimed (g .aim) (g .n) (g .next) (g .count)) _ _ (f .first .ensures) (a .before .second .ensures) (a .condition-of .ensures)
+    jump-no _ (aimed (g .aim) (g .n) (g .count)) _ _ (f .first .ensures) (a .before .second .ensures) (a .condition-of .ensures)
     (h .enum-told2 .given .1) (c .finish .ensures))
     (λ d.
     let c = d .before .before in
@@ -31,13 +31,15 @@ jump-to-spec =
     let h = t .before in
     let a = h .before .before in
     let f = a .before .before .before in
-    jump-27 _ _ (f .before .before .args .next) _ (f .first .ensures) (a .before .second .ensures) (a .condition-of .ensures) (h .enum-told3 .given .1)
-    (sym (t .aimed .ensures) ∙ c .enum-told4 .given .1) (d .refuse2 .ensures))
+    let g = f .before .before .args in
+    jump-27 _ (aimed (g .aim) (g .n) (g .count)) (g .next) _ (f .first .ensures) (a .before .second .ensures) (a .condition-of .ensures)
+    (h .enum-told3 .given .1) (λ e. sym (t .aimed .ensures e) ∙ c .enum-told4 .given .1) (d .refuse2 .ensures))
     (λ c.
     let k = c .before .before .before in
     let t = k .before .before in
     let h = t .before in
     let a = h .before .before in
     let f = a .before .before .before in
-    jump-at _ _ (f .before .before .args .next) _ (f .first .ensures) (a .before .second .ensures) (a .condition-of .ensures) (h .enum-told3 .given .1)
-    (sym (t .aimed .ensures) ∙ k .t .given .1) (c .finish2 .ensures)))
+    let g = f .before .before .args in
+    jump-at _ (aimed (g .aim) (g .n) (g .count)) (g .next) _ (f .first .ensures) (a .before .second .ensures) (a .condition-of .ensures)
+    (h .enum-told3 .given .1) (λ e. sym (t .aimed .ensures e) ∙ k .t .given .1) (c .finish2 .ensures)))
