@@ -33,7 +33,7 @@ fn tell_due(place: WordIndex) {
 // ': 2023 at 0000', the word that is no opcode.
 fn tell_word(list: &[u16], place: WordIndex) {
     say(b": ");
-    hexadecimal(word_at(list, place));
+    hexadecimal(word(list, place));
     say(b" at ");
     index(place);
 }
@@ -53,7 +53,7 @@ fn tell_operand(list: &[u16], opcode: WordIndex, place: WordIndex) {
     tell_opcode(list, opcode);
     say(b", ");
     tell_variables(
-        VarNo(word_at(list, place)),
+        VarNo(word(list, place)),
         variables_of(form_at(list, opcode)),
     );
 }
@@ -69,11 +69,11 @@ fn tell_variables(first: VarNo, count: u16) {
 }
 
 fn form_at(list: &[u16], at: WordIndex) -> Form {
-    form_of(word_at(list, at))
+    form_of(word(list, at))
 }
 
 // A place of 21 to 29 is inside the list; elsewhere there would be none to tell.
-fn word_at(list: &[u16], at: WordIndex) -> u16 {
+fn word(list: &[u16], at: WordIndex) -> u16 {
     let i = at.0 as usize;
     if i < list.len() { list[i] } else { 0 }
 }
