@@ -9,7 +9,7 @@ use Rattle.raster.specs.declared.frame.Bounds.{Bounds}
 use Rattle.raster.specs.declared.frame.Frame.{Frame}
 use Rattle.raster.specs.Shapes.{Shape}
 use Rattle.raster.specs.Frame.{drawable}
-use Rattle.raster.specs.Brush.{Holds}
+use Rattle.brush.specs.Brush.{Holds}
 use Rattle.player.specs.Painting.{Painting, nothing}
 use Rattle.player.specs.declared.Upshot.{Upshot}
 use Rattle.player.specs.declared.Upshot.the-variants.{Brushed}

@@ -10,8 +10,8 @@ use Rattle.player.specs.Player.{verdict}
 use Rattle.numbers.specs.declared.place.WordIndex.{WordIndex}
 use Rattle.raster.specs.declared.dots.Dot.{Dot}
 use Rattle.raster.specs.declared.frame.Window.{Window}
-use Rattle.raster.proofs.Spelt.{one-by-one}
-use Rattle.raster.proofs.Brushes.{byte}
+use Rattle.brush.proofs.Spelt.{one-by-one}
+use Rattle.brush.proofs.Brushes.{byte}
 use Rattle.rules.specs.Environment.{start, goto, compared, clipped, coloured, stated, moved, windowed, stateOf}
 use Rattle.act.specs.Lent.{numbers, indexed, CellsFull, PointsFull, Recelled, Repointed, Deepened}
 

@@ -7,7 +7,7 @@ use lib.IntN.{ℤ}
 use Rattle.raster.specs.declared.dots.Dot.{Dot}
 use Rattle.raster.specs.declared.frame.Bounds.{Bounds}
 use Rattle.raster.specs.Frame.{Coord}
-use Rattle.raster.specs.Brush.{Full, NearEnds}
+use Rattle.brush.specs.Brush.{Full, NearEnds}
 use Rattle.player.specs.declared.Verdict.{Verdict}
 use Rattle.player.specs.declared.Upshot.{Upshot}
 use Rattle.player.specs.declared.Upshot.the-variants.{Refused}

@@ -9,7 +9,7 @@ use lib.ListN.{length}
 use Rattle.raster.specs.declared.frame.Bounds.{Bounds}
 use Rattle.raster.specs.declared.frame.Frame.{Frame}
 use Rattle.raster.specs.Paint.{paint}
-use Rattle.raster.specs.Brush.{shapeOf, colourOf}
+use Rattle.brush.specs.Brush.{shapeOf, colourOf}
 use Rattle.raster.proofs.Recolour.{none, length-recolour}
 use Rattle.player.specs.declared.Verdict.{Verdict}
 use Rattle.player.specs.declared.Upshot.{Upshot}

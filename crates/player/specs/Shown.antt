@@ -7,7 +7,7 @@ use Rattle.raster.specs.declared.frame.Frame.{Frame}
 use Rattle.raster.specs.Shapes.{Shape}
 use Rattle.raster.specs.Frame.{drawable}
 use Rattle.raster.specs.Paint.{recolour, columnOf, rowOf}
-use Rattle.raster.specs.Brush.{shapeOf, colourOf}
+use Rattle.brush.specs.Brush.{shapeOf, colourOf}
 use Rattle.player.specs.declared.Verdict.{Verdict}
 use Rattle.player.specs.declared.Upshot.{Upshot}
 use Rattle.player.specs.declared.Upshot.the-variants.{Quiet, Brushed, Refused}

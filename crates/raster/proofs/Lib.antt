@@ -20,5 +20,3 @@ pub mod Paces
 pub mod Parts
 pub mod Rows
 pub mod Drawings
-pub mod Spelt
-pub mod Brushes

@@ -7,7 +7,6 @@ pub mod Line
 pub mod Stores
 -- What only functions inside the box promise:
 pub mod Biased
-pub mod Brush
 pub mod Rects
 pub mod Parts
 pub mod Courses

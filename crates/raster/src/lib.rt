@@ -1,10 +1,9 @@
 // Which dots are painted: a dot, a line and a fill on a lent screen, within a frame.
 pub mod frame; // screen, pane and clip window
-pub mod brush; // what is to be painted, and the painting of it
 pub mod dots; // one dot
 pub mod line; // a line's dots
-mod fill; // every drawable dot
-mod biased; // coordinates as unsigned numbers
+pub mod fill; // every drawable dot
+pub mod biased; // coordinates as unsigned numbers
 mod course; // a line from its start along the long axis
 mod rect; // the drawable columns and rows
 mod span; // the dots of a course within a rectangle

@@ -8,7 +8,7 @@ use fetch::source::variables;
 use fetch::source::word2_long;
 use numbers::place::WordIndex;
 use player::Upshot;
-use raster::brush::Brush;
+use brush::Brush;
 use rules::opcode::PaintForm;
 ghost use Rattle.rules.specs.Meaning as Meaning;
 ghost use Rattle.fetch.specs.Stages.{Reaches};

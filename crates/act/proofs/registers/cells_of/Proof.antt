@@ -2,7 +2,7 @@
 use mathlib.Core.Path.{refl}
 use Prim.Native.Nat.{_<_}
 use borrow.Author.Needs.{needs}
-use Rattle.raster.proofs.Brushes.{byte}
+use Rattle.brush.proofs.Brushes.{byte}
 use Rattle.act.proofs.registers.cells_of.Statement.{statement}
 use Rattle.act.proofs.registers.cells_of.Tie as tie
 

@@ -1,8 +1,8 @@
 -- `hold_dot`: the dot is stored biased.
 use borrow.Author.Needs.{needs}
-use Rattle.raster.proofs.Brushes.{dot-held}
-use Rattle.raster.proofs.brush.hold_dot.Statement.{statement}
-use Rattle.raster.proofs.brush.hold_dot.Tie as tie
+use Rattle.brush.proofs.Brushes.{dot-held}
+use Rattle.brush.proofs.hold_dot.Statement.{statement}
+use Rattle.brush.proofs.hold_dot.Tie as tie
 
 pub hold-dot-spec : {M : Type 1} → statement M
 hold-dot-spec =

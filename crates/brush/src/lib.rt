@@ -1,18 +1,18 @@
 // What is to be painted, held in six numbers, so that who says what is painted needs no screen; and the painting of it.
-use crate::biased::Spot;
-use crate::biased::spot_of;
-use crate::dots::Dot;
-use crate::dots::plot;
-use crate::fill::fill;
-use crate::frame::Frame;
-use crate::line::Line;
-use crate::line::draw_line;
+use raster::biased::Spot;
+use raster::biased::spot_of;
+use raster::dots::Dot;
+use raster::dots::plot;
+use raster::fill::fill;
+use raster::frame::Frame;
+use raster::line::Line;
+use raster::line::draw_line;
 ghost use mathlib.Core.Path.{_≡_};
 ghost use Rattle.raster.specs.Shapes.{dot, all};
 ghost use Rattle.raster.specs.Line.{line};
 ghost use Rattle.raster.specs.Frame.{Coord, Fitting};
 ghost use Rattle.raster.specs.Paint as Paint;
-ghost use Rattle.raster.specs.Brush.{Full, NearEnds, Holds, shapeOf, colourOf};
+ghost use Rattle.brush.specs.Brush.{Full, NearEnds, Holds, shapeOf, colourOf};
 
 // 0 the kind: 1 a dot, 2 a line, 3 every dot, any other nothing; 1 the colour; 2 and 3 a point, 4 and 5 another, biased.
 pub type Brush = [u32; 6];

@@ -1,8 +1,8 @@
 -- `hold_line`: both ends are stored biased.
 use borrow.Author.Needs.{needs}
-use Rattle.raster.proofs.Brushes.{line-held}
-use Rattle.raster.proofs.brush.hold_line.Statement.{statement}
-use Rattle.raster.proofs.brush.hold_line.Tie as tie
+use Rattle.brush.proofs.Brushes.{line-held}
+use Rattle.brush.proofs.hold_line.Statement.{statement}
+use Rattle.brush.proofs.hold_line.Tie as tie
 
 pub hold-line-spec : {M : Type 1} → statement M
 hold-line-spec =

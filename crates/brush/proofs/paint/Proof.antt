@@ -1,13 +1,13 @@
--- `raster::brush::paint` meets its contract: each arm paints the shape that its kind says.
+-- `brush::paint` meets its contract: each arm paints the shape that its kind says.
 use mathlib.Core.Path.{_≡_, sym, ap, _∙_}
 use borrow.Author.Needs.{needs}
 use Rattle.raster.specs.Shapes.{Shape}
 use Rattle.raster.specs.Paint.{paint}
-use Rattle.raster.specs.Brush.{shapeOf, colourOf}
+use Rattle.brush.specs.Brush.{shapeOf, colourOf}
 use Rattle.raster.proofs.Paintings.{nothing}
-use Rattle.raster.proofs.Brushes.{holds-dot, holds-line, holds-all, holds-none}
-use Rattle.raster.proofs.brush.paint.Statement.{statement}
-use Rattle.raster.proofs.brush.paint.Tie as tie
+use Rattle.brush.proofs.Brushes.{holds-dot, holds-line, holds-all, holds-none}
+use Rattle.brush.proofs.paint.Statement.{statement}
+use Rattle.brush.proofs.paint.Tie as tie
 
 abbrev S : tie.After-match3 → tie.Start
 S m = m .before .before .before .before .before

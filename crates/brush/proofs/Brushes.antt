@@ -6,16 +6,16 @@ use Prim.Native.Nat.{ℕ, _%_, _<_}
 use native.Mathlib.Omega.{arith}
 use borrow.Author.Tests.{ne-eqb}
 use lib.ListN.{set}
 use Rattle.raster.specs.declared.dots.Dot.{Dot}
 use Rattle.raster.specs.declared.line.Line.{Line}
 use Rattle.raster.specs.declared.biased.Spot.{Spot}
 use Rattle.raster.specs.Shapes.{dot, all}
 use Rattle.raster.specs.Line.{line}
 use Rattle.raster.specs.Frame.{Coord}
 use Rattle.raster.specs.Biased.{spotOf, dotOf, lineOf, NearB}
-use Rattle.raster.specs.Brush.{kind, one, other, shapeOf, Full, Holds}
+use Rattle.brush.specs.Brush.{kind, one, other, shapeOf, Full, Holds}
 use Rattle.raster.proofs.Coordinates.{dot-back}
-use Rattle.raster.proofs.Spelt.{one-by-one}
+use Rattle.brush.proofs.Spelt.{one-by-one}
 
 pub byte : (c : ℕ) → c < 256 → c % 256 ≡ c
 byte c h = omega (arith, h)

@@ -1,0 +1,3 @@
+-- The laws that proofs cite, here and in the crates above:
+pub mod Spelt
+pub mod Brushes

@@ -1,0 +1,2 @@
+-- What the contracts and theorems of brush cite.
+pub mod Brush
