@@ -35,8 +35,8 @@ enum ovenlute_number {
     OVENLUTE_NO_OPCODE = 21,     /* no opcode */
     OVENLUTE_CUT = 22,           /* the list ends inside the opcode */
     OVENLUTE_NO_VARIABLE = 23,   /* a variable above 63 */
-    OVENLUTE_NOT_ALLOWED = 24,   /* a mode, line type or condition that is not allowed */
-    OVENLUTE_OUT_OF_RANGE = 25,  /* a coordinate, offset or position outside -32,768 to 32,767 */
+    OVENLUTE_NOT_ALLOWED = 24,   /* a mode, type or condition that is not allowed */
+    OVENLUTE_OUT_OF_RANGE = 25,  /* a coordinate, offset or position outside -32,768 to 32,767, or a radius outside 0 to 32,767 */
     OVENLUTE_ZERO_DIVISOR = 26,  /* the divisor is zero */
     OVENLUTE_BAD_TARGET = 27,    /* a target that is not allowed */
     OVENLUTE_STACK_FULL = 28,    /* a call with 16 returns stacked */

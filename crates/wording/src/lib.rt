@@ -41,15 +41,11 @@ fn opcode_words(number: u8) -> Words
         21 => told(number, 21, b"no opcode"),
         22 => told(number, 22, b"the list ends inside the opcode"),
         23 => told(number, 23, b"a variable above 63"),
-        24 => told(
-            number,
-            24,
-            b"a mode, line type or condition that is not allowed",
-        ),
+        24 => told(number, 24, b"a mode, type or condition that is not allowed"),
         25 => told(
             number,
             25,
-            b"a coordinate, offset or position outside -32,768 to 32,767",
+            b"a coordinate, offset or position outside -32,768 to 32,767, or a radius outside 0 to 32,767",
         ),
         26 => told(number, 26, b"the divisor is zero"),
         27 => told(number, 27, b"a target that is not allowed"),
