@@ -2,13 +2,13 @@
 use act::painting;
 use act::registers::Cells;
 use act::registers::Points;
+use brush::Brush;
 use fetch::source::long_word;
 use fetch::source::plain;
 use fetch::source::variables;
 use fetch::source::word2_long;
 use numbers::place::WordIndex;
 use player::Upshot;
-use brush::Brush;
 use rules::opcode::PaintForm;
 ghost use Rattle.rules.specs.Meaning as Meaning;
 ghost use Rattle.fetch.specs.Stages.{Reaches};
