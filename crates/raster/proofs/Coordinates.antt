@@ -118,6 +118,17 @@ apart (negsuc a) (pos b) h k =
 apart (pos a) (negsuc b) h k = neg-minus b a ∙ sub-same 0 (suc b + a) (bias - suc b) (a + bias) (omega arith)
 apart (negsuc a) (negsuc b) h k = sub-same (suc a) (suc b) (bias - suc b) (bias - suc a) (omega arith)
 
+-- a point of the screen from a coordinate that is given biased
+pos-apart : (x i : ℕ) → pos i -ℤ subℕ x bias ≡ subℕ (i + bias) x
+pos-apart x i = by (decLt x bias)
+  where
+    by : Dec (x < bias) → pos i -ℤ subℕ x bias ≡ subℕ (i + bias) x
+    by (yes h) =
+        ap (λ (z : ℤ). pos i -ℤ z) (sub-lt x bias h)
+        ∙ sym (sub-ge (i + suc (bias - suc x)) 0 (omega arith) ∙ ap pos (omega arith))
+        ∙ sub-same (i + suc (bias - suc x)) 0 (i + bias) x (omega arith)
+    by (no h) = ap (λ (z : ℤ). pos i -ℤ z) (sub-ge x bias (omega arith)) ∙ pos-minus i (x - bias) ∙ sub-same i (x - bias) (i + bias) x (omega arith)
+
 abs-sub : (x y : ℕ) → natAbs (subℕ x y) ≡ (x - y) + (y - x)
 abs-sub x y = by (decLt x y)
   where
@@ -127,3 +138,6 @@ abs-sub x y = by (decLt x y)
 
 pub gap-is : (a b : ℤ) → Coord a → Coord b → gap a b ≡ gapB (biased a) (biased b)
 gap-is a b h k = ap natAbs (apart a b (h .small) (k .small)) ∙ abs-sub (biased b) (biased a)
+
+pub gap-pos : (x i : ℕ) → gap (subℕ x bias) (pos i) ≡ gapB x (i + bias)
+gap-pos x i = ap natAbs (pos-apart x i) ∙ abs-sub (i + bias) x

@@ -24,7 +24,7 @@ eqZ→eq : (x : ℤ) (i : ℕ) → T (eqZ x (pos i)) → x ≡ pos i
 eqZ→eq (pos n) i t = ap pos (eqb→eq n i t)
 eqZ→eq (negsuc n) i t = absurd t
 
-eqZ-refl : (z : ℤ) → T (eqZ z z)
+pub eqZ-refl : (z : ℤ) → T (eqZ z z)
 eqZ-refl (pos n) = eqb-refl n
 eqZ-refl (negsuc n) = eqb-refl n
 

@@ -88,7 +88,7 @@ fn inside(r: Rect, p: Spot) -> bool
 }
 
 // x is one of lo to hi, by one comparison: from below lo it wraps to above them all.
-fn among(lo: u32, hi: u32, x: u32) -> bool
+pub fn among(lo: u32, hi: u32, x: u32) -> bool
     requires { ⌜ lo ≤ hi ⌝ }
     ensures { λ b. ⌜ b ≡ (leb lo x && leb x hi) ⌝ }
 {
