@@ -1,11 +1,16 @@
 -- What a brush holds, once it is stored, and what its kind says of it.
-use mathlib.Core.Path.{_≡_, refl, ap, subst⁻¹}
-use mathlib.Core.Bool.{false}
+use mathlib.Core.Path.{_≡_, refl, sym, ap, _∙_, subst⁻¹}
+use mathlib.Core.Bool.{Bool, true, false, cond, true≢false, _||_}
 use mathlib.Core.List.{List}
 use Prim.Native.Nat.{ℕ, _%_, _<_}
 use native.Mathlib.Omega.{arith}
-use borrow.Author.Tests.{ne-eqb}
+use borrow.Author.Tests.{leb-true, ne-eqb}
+use lib.Dec.{eqb}
+use lib.IntN.{ℤ, pos, negsuc, natAbs}
 use lib.ListN.{set}
+use mir.Syntax.{w32}
+use mir.Val.{toZ, ofZ}
+use mir.Facts.{toZ-ofZ}
 use Rattle.raster.specs.declared.dots.Dot.{Dot}
 use Rattle.raster.specs.declared.line.Line.{Line}
 use Rattle.raster.specs.declared.biased.Spot.{Spot}
@@ -13,15 +18,40 @@ use Rattle.raster.specs.Shapes.{dot, all}
 use Rattle.raster.specs.Line.{line}
 use Rattle.raster.specs.Frame.{Coord}
 use Rattle.raster.specs.Biased.{spotOf, dotOf, lineOf, NearB}
-use Rattle.brush.specs.Brush.{kind, one, other, shapeOf, Full, Holds}
+use Rattle.circles.specs.declared.circle.Circle.{Circle}
+use Rattle.circles.specs.Circle.{disc, outline, circle}
+use Rattle.circles.specs.Reaches.{circleOf}
+use Rattle.brush.specs.Brush.{kind, one, other, radius, shapeOf, Full, Radius, Near, Holds}
 use Rattle.raster.proofs.Coordinates.{dot-back}
-use Rattle.brush.proofs.Spelt.{one-by-one}
+use Rattle.brush.proofs.Spelt.{spelt, one-by-one}
 
 pub byte : (c : ℕ) → c < 256 → c % 256 ≡ c
 byte c h = omega (arith, h)
 
 near-back : (d : Dot) → Coord (d .x) × Coord (d .y) → NearB (spotOf d)
 near-back d h = subst⁻¹ (λ (e : Dot). Coord (e .x) × Coord (e .y)) (dot-back d h) h
+
+-- a radius is a natural number, and comes back whole from a call
+pub radius-small : (z : ℤ) → Radius z → natAbs z < 32768
+radius-small (pos n) h = omega (arith, leb-true n 32767 (h .high))
+radius-small (negsuc n) h = absurd (true≢false (sym (h .low)))
+
+pub radius-natural : (z : ℤ) → Radius z → pos (natAbs z) ≡ z
+radius-natural (pos n) h = refl
+radius-natural (negsuc n) h = absurd (true≢false (sym (h .low)))
+
+pub radius-back : (z : ℤ) → Radius z → toZ w32 (ofZ w32 z) ≡ pos (natAbs z)
+radius-back z h = rw (sym (radius-natural z h)) (toZ-ofZ {w = w32} (record { sfits = omega (arith, radius-small z h) }))
+
+-- a kind of which nothing is asked
+abbrev asks : ℕ → Bool
+asks k = eqb k 2 || eqb k 4 || eqb k 5
+
+pub unasked : {p : List ℕ} (k : ℕ) → kind p ≡ k → asks k ≡ false → Near p
+unasked {p} k e h = record { line = λ z. no z refl; disc = λ z. no z refl; outline = λ z. no z refl }
+  where
+    no : {j : ℕ} {X : Type 0} → kind p ≡ j → asks j ≡ true → X
+    no z t = absurd (true≢false (sym t ∙ ap asks (sym z ∙ e) ∙ h))
 
 -- ---- what is stored, p and q biased, is what was given
 module _ (b : List ℕ) (l : Full b) (c : ℕ) (k : c < 256) where
@@ -30,7 +60,7 @@ module _ (b : List ℕ) (l : Full b) (c : ℕ) (k : c < 256) where
   dot-held d h p e =
       rw e
       (one-by-one 0 (λ b. Holds (dot d) c (set (set (set (set b 0 1) 1 c) 2 (spotOf d .x)) 3 (spotOf d .y))) b l
-      (record { full = refl; near = λ z. absurd (omega (arith, z)); shape = ap dot (dot-back d h); colour = byte c k }))
+      (record { full = refl; near = unasked 1 refl refl; shape = ap dot (dot-back d h); colour = byte c k }))
 
   pub line-held : (m : Line) → (Coord (m .from .x) × Coord (m .from .y) × Coord (m .to .x) × Coord (m .to .y)) → (p q : Spot) → p ≡ spotOf (m .from) → q ≡ spotOf (m .to)
       → Holds (line m) c (set (set (set (set (set (set b 0 2) 1 c) 2 (p .x)) 3 (p .y)) 4 (q .x)) 5 (q .y))
@@ -41,16 +71,37 @@ module _ (b : List ℕ) (l : Full b) (c : ℕ) (k : c < 256) where
       (λ b. Holds (line m) c (set (set (set (set (set (set b 0 2) 1 c) 2 (spotOf (m .from) .x)) 3 (spotOf (m .from) .y)) 4 (spotOf (m .to) .x)) 5 (spotOf (m .to) .y))) b l
       (record {
         full = refl;
-        near = λ z. (near-back (m .from) (h .0, h .1), near-back (m .to) (h .2, h .3));
+        near = record { line = λ z. (near-back (m .from) (h .0, h .1), near-back (m .to) (h .2, h .3)); disc = λ z. absurd (omega (arith, z)); outline = λ z. absurd (omega (arith, z)) };
         shape = ap line (λ i. record { from = dot-back (m .from) (h .0, h .1) i; to = dot-back (m .to) (h .2, h .3) i });
         colour = byte c k;
       }))
+
+  abbrev roundly : Bool → Spot → ℕ → List ℕ → List ℕ
+  roundly filled p q b = set (set (set (set (set b 0 (cond filled 4 5)) 1 c) 2 (p .x)) 3 (p .y)) 4 q
+
+  pub circle-held : (m : Circle) → (Coord (m .centre .x) × Coord (m .centre .y) × Radius (m .radius)) → (filled : Bool) (p : Spot) → p ≡ spotOf (m .centre)
+      → Holds (circle filled m) c (roundly filled p (natAbs (m .radius)) b)
+  unfolding shapeOf
+  circle-held m h filled p e =
+      rw e (one-by-one 0 (λ b. Holds (circle filled m) c (roundly filled (spotOf (m .centre)) (natAbs (m .radius)) b)) b l (by filled))
+    where
+      same : circleOf (spotOf (m .centre)) (natAbs (m .radius)) ≡ m
+      same = λ i. record { centre = dot-back (m .centre) (h .0, h .1) i; radius = radius-natural (m .radius) (h .2) i }
+
+      asked : NearB (spotOf (m .centre)) × (natAbs (m .radius) < 32768)
+      asked = (near-back (m .centre) (h .0, h .1), radius-small (m .radius) (h .2))
+
+      by : (t : Bool) → Holds (circle t m) c (roundly t (spotOf (m .centre)) (natAbs (m .radius)) (spelt 0 6 b))
+      by true =
+          record { full = refl; near = record { line = λ z. absurd (omega (arith, z)); disc = λ z. asked; outline = λ z. asked }; shape = ap disc same; colour = byte c k }
+      by false =
+          record { full = refl; near = record { line = λ z. absurd (omega (arith, z)); disc = λ z. asked; outline = λ z. asked }; shape = ap outline same; colour = byte c k }
 
   pub all-held : Holds all c (set (set b 0 3) 1 c)
   unfolding shapeOf
   all-held =
       one-by-one 0 (λ b. Holds all c (set (set b 0 3) 1 c)) b l
-      (record { full = refl; near = λ z. absurd (omega (arith, z)); shape = refl; colour = byte c k })
+      (record { full = refl; near = unasked 3 refl refl; shape = refl; colour = byte c k })
 
 -- ---- by its kind
 module _ (b : List ℕ) where
@@ -66,6 +117,16 @@ module _ (b : List ℕ) where
   unfolding shapeOf
   holds-all e = rw e
 
-  pub holds-none : ((Unit {0} × (kind b ≡ 1 → ⊥)) × (kind b ≡ 2 → ⊥)) × (kind b ≡ 3 → ⊥) → shapeOf b ≡ (λ x y. false)
+  pub holds-disc : kind b ≡ 4 → shapeOf b ≡ disc (circleOf (one b) (radius b))
   unfolding shapeOf
-  holds-none h = rw (ne-eqb (kind b) 1 (h .0 .0 .1), ne-eqb (kind b) 2 (h .0 .1), ne-eqb (kind b) 3 (h .1))
+  holds-disc e = rw e
+
+  pub holds-outline : kind b ≡ 5 → shapeOf b ≡ outline (circleOf (one b) (radius b))
+  unfolding shapeOf
+  holds-outline e = rw e
+
+  pub holds-none : ((((Unit {0} × (kind b ≡ 1 → ⊥)) × (kind b ≡ 2 → ⊥)) × (kind b ≡ 3 → ⊥)) × (kind b ≡ 4 → ⊥)) × (kind b ≡ 5 → ⊥)
+      → shapeOf b ≡ (λ x y. false)
+  unfolding shapeOf
+  holds-none h =
+      rw (ne-eqb (kind b) 1 (h .0 .0 .0 .0 .1), ne-eqb (kind b) 2 (h .0 .0 .0 .1), ne-eqb (kind b) 3 (h .0 .0 .1), ne-eqb (kind b) 4 (h .0 .1), ne-eqb (kind b) 5 (h .1))

@@ -1,4 +1,6 @@
 // What is to be painted, held in six numbers, so that who says what is painted needs no screen; and the painting of it.
+use circles::circle::Circle;
+use circles::circle::draw_circle;
 use raster::biased::Spot;
 use raster::biased::spot_of;
 use raster::dots::Dot;
@@ -12,9 +14,11 @@ ghost use Rattle.raster.specs.Shapes.{dot, all};
 ghost use Rattle.raster.specs.Line.{line};
 ghost use Rattle.raster.specs.Frame.{Coord, Fitting};
 ghost use Rattle.raster.specs.Paint as Paint;
-ghost use Rattle.brush.specs.Brush.{Full, NearEnds, Holds, shapeOf, colourOf};
+ghost use Rattle.circles.specs.Circle.{circle};
+ghost use Rattle.brush.specs.Brush.{Full, Radius, Near, Holds, shapeOf, colourOf};
 
-// 0 the kind: 1 a dot, 2 a line, 3 every dot, any other nothing; 1 the colour; 2 and 3 a point, 4 and 5 another, biased.
+// 0 the kind: 1 a dot, 2 a line, 3 every dot, 4 a filled circle, 5 a circle's outline, any other nothing; 1 the colour; 2 and 3 a point,
+// biased; 4 and 5 another, or 4 a radius.
 pub type Brush = [u32; 6];
 
 pub fn hold_dot(brush: &mut Brush, d: Dot, c: u8)
@@ -52,10 +56,24 @@ pub fn hold_all(brush: &mut Brush, c: u8)
     brush[1] = c as u32;
 }
 
+// A circle, filled or the outline alone.
+pub fn hold_circle(brush: &mut Brush, k: Circle, filled: bool, c: u8)
+    requires { ⌜ Full (now brush) ⌝ }
+    requires { ⌜ Coord (k .centre .x) × Coord (k .centre .y) × Radius (k .radius) ⌝ }
+    ensures { λ _. ⌜ Holds (circle filled k) c (now (brush .exit)) ⌝ }
+{
+    let p = spot_of(k.centre);
+    brush[0] = if filled { 4 } else { 5 };
+    brush[1] = c as u32;
+    brush[2] = p.x;
+    brush[3] = p.y;
+    brush[4] = k.radius as u32;
+}
+
 // The drawable dots of what the brush holds, in its colour.
 pub fn paint(screen: &mut [u8], f: Frame, brush: &Brush)
     requires { ⌜ Fitting f (now screen) ⌝ }
-    requires { ⌜ NearEnds (now brush) ⌝ }
+    requires { ⌜ Near (now brush) ⌝ }
     ensures { λ _. ⌜ now (screen .exit) ≡ Paint.paint f (shapeOf (now (brush .entry))) (colourOf (now (brush .entry))) (now (screen .entry)) ⌝ }
 {
     let c = (brush[1] % 256) as u8;
@@ -73,6 +91,8 @@ pub fn paint(screen: &mut [u8], f: Frame, brush: &Brush)
             draw_line(screen, f, p, q, c)
         }
         3 => fill(screen, f, c),
+        4 => draw_circle(screen, f, p, brush[4], true, c),
+        5 => draw_circle(screen, f, p, brush[4], false, c),
         _ => {}
     }
 }
