@@ -1,4 +1,4 @@
--- Document 01, number 25: a coordinate, an offset or a new position is within -32,768 to 32,767 or not.
+-- Document 01, number 25: a coordinate, an offset or a new position is within -32,768 to 32,767 or not. Document 02, T-01: a radius is within 0 to 32,767 or not.
 use mathlib.Core.Bool.{Bool, cond, _&&_}
 use lib.IntN.{ℤ, pos, negsuc}
 use lib.Signed.{leZ}
@@ -11,3 +11,10 @@ inWord z = leZ (negsuc 32767) z && leZ z (pos 32767)
 
 unfoldable pub coordinate : ℤ → Coordinate
 coordinate z = cond (inWord z) (Within z) Outside
+
+-- a circle's radius
+unfoldable pub isRadius : ℤ → Bool
+isRadius z = leZ (pos 0) z && leZ z (pos 32767)
+
+unfoldable pub radius : ℤ → Coordinate
+radius z = cond (isRadius z) (Within z) Outside

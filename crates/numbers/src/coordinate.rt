@@ -1,9 +1,9 @@
-// Coordinates: whole numbers from -32,768 to 32,767, judged at full width.
+// Coordinates: whole numbers from -32,768 to 32,767, judged at full width; and radii, from 0 to 32,767.
 use crate::value::to_signed;
 ghost use mathlib.Core.Path.{_≡_};
 ghost use lib.IntN.{_+ℤ_};
 ghost use Rattle.numbers.specs.Number.{signed32};
-ghost use Rattle.numbers.specs.Coordinate.{inWord, coordinate};
+ghost use Rattle.numbers.specs.Coordinate.{inWord, coordinate, radius};
 
 pub enum Coordinate {
     Within(i32),
@@ -29,6 +29,21 @@ pub fn coordinate_of(v: u32) -> Coordinate
     ensures { λ r. ⌜ r ≡ coordinate (signed32 v) ⌝ }
 {
     judge(to_signed(v) as i64)
+}
+
+pub fn radius_of(v: u32) -> Coordinate
+    ensures { λ r. ⌜ r ≡ radius (signed32 v) ⌝ }
+{
+    let z = to_signed(v);
+    if z >= 0 {
+        if z <= 32767 {
+            Coordinate::Within(z)
+        } else {
+            Coordinate::Outside
+        }
+    } else {
+        Coordinate::Outside
+    }
 }
 
 // A coordinate shifted by an offset.
