@@ -57,6 +57,10 @@ penName Pens.Movetor = "MOVETOR"
 penName Pens.Movetorv = "MOVETORV"
 
 abbrev pub paintName : PaintForm → String
+paintName Paints.Cir = "CIR"
+paintName Paints.Cirv = "CIRV"
+paintName Paints.Cirs = "CIRS"
+paintName Paints.Cirsv = "CIRSV"
 paintName Paints.Line = "LINE"
 paintName Paints.Linev = "LINEV"
 paintName Paints.Lineto = "LINETO"

@@ -85,6 +85,10 @@ fn paint_name(form: PaintForm) -> Words
     ensures { λ r. ⌜ r ≡ wordsOf (bytes (paintName form)) ⌝ }
 {
     match form {
+        PaintForm::Cir => padded(b"CIR"),
+        PaintForm::Cirv => padded(b"CIRV"),
+        PaintForm::Cirs => padded(b"CIRS"),
+        PaintForm::Cirsv => padded(b"CIRSV"),
         PaintForm::Line => padded(b"LINE"),
         PaintForm::Linev => padded(b"LINEV"),
         PaintForm::Lineto => padded(b"LINETO"),
@@ -156,6 +160,10 @@ fn paint_variables(form: PaintForm) -> u16
     ensures { λ r. ⌜ r ≡ variablesOf (Meaning.paint form) ⌝ }
 {
     match form {
+        PaintForm::Cir => 0,
+        PaintForm::Cirv => 4,
+        PaintForm::Cirs => 0,
+        PaintForm::Cirsv => 4,
         PaintForm::Line => 0,
         PaintForm::Linev => 5,
         PaintForm::Lineto => 0,

@@ -62,6 +62,8 @@ rule-keeps Op.PixelColour o n e = refl
 rule-keeps Op.Line o n e = refl
 rule-keeps Op.LineTo o n e = refl
 rule-keeps Op.LineBy o n e = refl
+rule-keeps Op.Disc o n e = refl
+rule-keeps Op.Outline o n e = refl
 rule-keeps Op.Clear o n e = refl
 
 ruled-keeps : (m : Meaning) (w : List ℕ) (e : Env) → ruled m w e .env .bounds ≡ e .bounds

@@ -1,16 +1,17 @@
--- Document 01, 'Cases, whole answers': the starred cases with their variants, as one table of whole answers; some edges; the places of 23; and the seven conditions.
+-- Document 01, 'Cases, whole answers': the starred cases with their variants, as one table of whole answers; some edges; the places of 23; the seven conditions; and document 02's circles.
 use Prim.Native.Nat.{ℕ, _-_, _^_}
 use mathlib.Core.Path.{_≡_, refl}
 use mathlib.Core.List.{List, [], _∷_, map}
 use lib.IntN.{pos}
 use lib.ListN.{replicate}
 use Rattle.numbers.specs.Number.{signed32, signed16, low32, sum32, quotient32, remainder32}
-use Rattle.numbers.specs.Coordinate.{inWord}
+use Rattle.numbers.specs.Coordinate.{inWord, isRadius}
 use Rattle.numbers.specs.Place.{wordOf, indexOf}
 use Rattle.raster.specs.Shapes.{someBelow}
 use Rattle.raster.specs.Frame.{drawable}
 use Rattle.raster.specs.Paint.{recolourFrom, paint}
 use Rattle.raster.specs.Line.{line, side}
+use Rattle.circles.specs.Circle.{disc, outline}
 use Rattle.player.specs.Player.{fault, verdict}
 use Rattle.player.specs.Run.{Answer, answer, runs}
 use Rattle.player.specs.Hosted.{answered}
@@ -191,6 +192,37 @@ conditions =
     (on 0xB taken passed taken  -- not equal
     []))))))
 
+-- ---- circles around (2, 1)
+abbrev pub around : ℕ → ℕ → List ℕ
+around op radius = op ∷ 0x0000 ∷ 0x0002 ∷ 0x0001 ∷ radius ∷ 0x0001 ∷ []
+
+abbrev pub oneDot : List ℕ
+oneDot =
+    0 ∷ 0 ∷ 0 ∷ 0 ∷ 0 ∷
+    0 ∷ 0 ∷ 15 ∷ 0 ∷ 0 ∷
+    0 ∷ 0 ∷ 0 ∷ 0 ∷ 0 ∷ []
+
+-- the last four by variables from V0 on
+abbrev pub circles : List Case
+circles =
+    shows e₀ oneDot (case (around 0x0012 0x0000) 0 (ended 6 e₀) 2) ∷  -- CIR, radius 0
+    shows e₀ oneDot (case (around 0x0014 0x0000) 0 (ended 6 e₀) 2) ∷  -- CIRS
+    shows e₀  -- CIR, radius 2
+    (0 ∷ 15 ∷ 0 ∷ 15 ∷ 0 ∷
+    15 ∷ 0 ∷ 0 ∷ 0 ∷ 15 ∷
+    0 ∷ 15 ∷ 0 ∷ 15 ∷ 0 ∷ [])
+    (case (around 0x0012 0x0002) 0 (ended 6 e₀) 2) ∷
+    shows e₂  -- CIRS, radius 2, in the pane from column 2 on
+    (0 ∷ 0 ∷ 15 ∷ 15 ∷ 0 ∷
+    0 ∷ 0 ∷ 15 ∷ 15 ∷ 15 ∷
+    0 ∷ 0 ∷ 15 ∷ 15 ∷ 0 ∷ [])
+    (case (around 0x0014 0x0002) 0 (ended 6 e₂) 2) ∷
+    stops (0x0065 ∷ 0x0001 ∷ 0x0000 ∷ 0x0066 ∷ 0x8000 ∷ 0x0000 ∷ 0x0003 ∷ 0x0015 ∷ 0x0000 ∷ []) 24 7 (at 7 (var 0 1 (var 3 32768 e₀))) 2 ∷  -- CIRSV, type 1 and radius 32,768: 24 comes before 25
+    stops (0x0066 ∷ 0x8000 ∷ 0x0000 ∷ 0x0003 ∷ 0x0015 ∷ 0x0000 ∷ []) 25 4 (at 4 (var 3 32768 e₀)) 1 ∷  -- radius 32,768
+    stops (0x0065 ∷ 0xFFFF ∷ 0x0003 ∷ 0x0015 ∷ 0x0000 ∷ []) 25 3 (at 3 (var 3 (minus 1) e₀)) 1 ∷  -- radius -1
+    stops (0x0066 ∷ 0x0000 ∷ 0x0001 ∷ 0x0001 ∷ 0x0013 ∷ 0x0000 ∷ []) 25 4 (at 4 (var 1 65536 e₀)) 1 ∷  -- CIRV, x 65,536
+    []
+
 abbrev pub played : Case → Answer Env
 played c = whole c.words blank c.env c.budget
 
@@ -209,6 +241,10 @@ placed = refl
 pub conditioned : map played conditions ≡ map (λ (c : Case). c.want) conditions
 unfolding signed32 signed16 low32 allowed met inWord indexOf recolourFrom drawable paint formOf carried step doorOf door answered runs
 conditioned = refl
+
+pub circled : map played circles ≡ map (λ (c : Case). c.want) circles
+unfolding signed32 signed16 low32 inWord isRadius recolourFrom someBelow drawable paint disc outline formOf carried step doorOf door answered runs
+circled = refl
 
 -- the fresh environment, field by field
 pub fresh-fields : e₀

@@ -144,6 +144,8 @@ module _ (o : Operands) (n : ℕ) (few : n ≤ 65536) where
   rule-keeps Op.Line e h f = h
   rule-keeps Op.LineTo e h f = placed e h (point (o .b) (o .c)) (f .1)
   rule-keeps Op.LineBy e h f = placed e h (shifted (e .pen .position) (point (o .b) (o .c))) (neither (far (point (o .b) (o .c))) _ (f .1) .1)
+  rule-keeps Op.Disc e h f = h
+  rule-keeps Op.Outline e h f = h
   rule-keeps Op.Clear e h f = h
 
 -- ---- a step: a check that refuses stops the environment with a number 20 to 29 and a place 0 to 65,536

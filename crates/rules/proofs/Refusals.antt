@@ -67,6 +67,8 @@ rule-goes Op.PixelColour o n e h = h
 rule-goes Op.Line o n e h = h
 rule-goes Op.LineTo o n e h = h
 rule-goes Op.LineBy o n e h = h
+rule-goes Op.Disc o n e h = h
+rule-goes Op.Outline o n e h = h
 rule-goes Op.Clear o n e h = h
 
 ruled-goes : (m : Meaning) (w : List ℕ) (e : Env) → Going e → Going (ruled m w e .env)

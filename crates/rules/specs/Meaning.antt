@@ -1,4 +1,4 @@
--- Document 01, 'Opcodes of the base': what each opcode does and where its operands come from. The comments are the paper's names with their operands.
+-- Document 01, 'Opcodes of the base', and document 02, T-01: what each opcode does and where its operands come from. The comments are the paper's names with their operands.
 use mathlib.Core.List.{[], _∷_}
 use Rattle.rules.specs.declared.opcode.FlowForm.{FlowForm}
 use Rattle.rules.specs.declared.opcode.FlowForm.the-variants as Flows
@@ -59,6 +59,10 @@ pen Pens.Movetor = Known Op.MoveBy (plain 2)  -- MOVETOR dx dy
 pen Pens.Movetorv = Known Op.MoveBy (from 2 ∷ [])  -- MOVETORV Vi
 
 abbrev pub paint : PaintForm → Meaning
+paint Paints.Cir = Known Op.Outline (plain 4)  -- CIR type x y radius
+paint Paints.Cirv = Known Op.Outline (from 4 ∷ [])  -- CIRV Vi
+paint Paints.Cirs = Known Op.Disc (plain 4)  -- CIRS type x y radius
+paint Paints.Cirsv = Known Op.Disc (from 4 ∷ [])  -- CIRSV Vi
 paint Paints.Line = Known Op.Line (plain 5)  -- LINE type x0 y0 x1 y1
 paint Paints.Linev = Known Op.Line (from 5 ∷ [])  -- LINEV Vi
 paint Paints.Lineto = Known Op.LineTo (plain 3)  -- LINETO type x y

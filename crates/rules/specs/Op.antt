@@ -27,4 +27,6 @@ pub data Op : Type 0 where
   Line : Op
   LineTo : Op
   LineBy : Op
+  Disc : Op
+  Outline : Op
   Clear : Op

@@ -1,4 +1,4 @@
--- Document 01, 'Opcodes of the base': what each op does, one clause an op. A clause finds the counter at the next opcode.
+-- Document 01, 'Opcodes of the base', and document 02, T-01: what each op does, one clause an op. A clause finds the counter at the next opcode.
 use Prim.Native.Nat.{ℕ}
 use mathlib.Core.Bool.{Bool, true, false, cond, not, _&&_, _||_}
 use lib.ListN.{length}
@@ -6,11 +6,12 @@ use lib.Dec.{ltb, leb, eqb}
 use lib.Bits.{bitAnd, bitOr}
 use lib.IntN.{ℤ, pos, _+ℤ_}
 use Rattle.numbers.specs.Number.{signed32, low8, sum32, difference32, product32, quotient32, remainder32}
-use Rattle.numbers.specs.Coordinate.{inWord}
+use Rattle.numbers.specs.Coordinate.{inWord, isRadius}
 use Rattle.numbers.specs.Place.{wordOf, indexOf}
 use Rattle.raster.specs.Shapes.{Shape, dot, all}
 use Rattle.raster.specs.Line.{line}
-use Rattle.rules.specs.Types.{Target, At, Refused, Dot, Window, Operands, Ended}
+use Rattle.circles.specs.Circle.{disc, outline}
+use Rattle.rules.specs.Types.{Target, At, Refused, Dot, Window, Circle, Operands, Ended}
 use Rattle.rules.specs.Op as Op
 use Rattle.rules.specs.Operands.{at}
 use Rattle.rules.specs.Environment.{Env, put, moved, coloured, clipped, windowed, compared, goto, stated, pushed, popped, top}
@@ -94,13 +95,20 @@ window p q = record { x0 = p.x; y0 = p.y; x1 = q.x; y1 = q.y }
 abbrev pub dots : Dot → ℕ → Env → Rule
 dots p c e = refuse 25 (far p) (paints (dot p) c e)
 
--- only line type 0 is drawn
+-- lines and circles are drawn in type 0 only
 abbrev pub otherType : ℕ → Bool
 otherType type = ltb 0 type
 
 -- a line from p to q; `out`: a coordinate or offset is outside
 abbrev pub draws : ℕ → Bool → Dot → Dot → Env → Rule
 draws type out p q e = refuse 24 (otherType type) (refuse 25 out (paints (line (record { from = p; to = q })) (e .pen .colour) e))
+
+-- a circle of the shape S in the foreground colour; a: its type; b, c: its centre; d: its radius
+abbrev pub circles : (Circle → Shape) → Operands → Env → Rule
+circles S o e =
+    let p = point o.b o.c in
+    let r = signed32 o.d in
+    refuse 24 (otherType o.a) (refuse 25 (far p || not (isRadius r)) (paints (S (record { centre = p; radius = r })) (e .pen .colour) e))
 
 -- ---- each op, in a list of n words
 abbrev pub rule : Op.Op → Operands → ℕ → Env → Rule
@@ -143,4 +151,6 @@ rule Op.LineBy o n e =
     let d = point o.b o.c in
     let q = shifted (e .pen .position) d in
     draws o.a (far d || far q) (e .pen .position) q (moved q e)
+rule Op.Disc o n e = circles disc o e
+rule Op.Outline o n e = circles outline o e
 rule Op.Clear o n e = paints all (low8 o.a) e

@@ -1,4 +1,4 @@
--- Document 01, 'Opcodes of the base': every opcode's number, in order. The numbers are 01's, RTRN's is that of 004's alphabetical list.
+-- Document 01, 'Opcodes of the base', and document 02, T-01: every opcode's number, in order. The numbers are theirs, RTRN's is that of 004's alphabetical list.
 use Prim.Native.Nat.{ℕ}
 use mathlib.Core.Bool.{cond}
 use mathlib.Core.List.{List, [], _∷_}
@@ -27,6 +27,10 @@ table =
     row 0x0007 (Value Values.Andvv) ∷
     row 0x000E (Flow Flows.Cal) ∷
     row 0x000F (Flow Flows.Calv) ∷
+    row 0x0012 (Paint Paints.Cir) ∷
+    row 0x0013 (Paint Paints.Cirv) ∷
+    row 0x0014 (Paint Paints.Cirs) ∷
+    row 0x0015 (Paint Paints.Cirsv) ∷
     row 0x0016 (Pen Pens.Clipmode) ∷
     row 0x0017 (Pen Pens.Clipmodev) ∷
     row 0x0018 (Pen Pens.Clipwin) ∷

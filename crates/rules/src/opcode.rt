@@ -1,4 +1,4 @@
-// Document 01, 'Opcodes of the base': the opcodes by their names on the paper, and what was read behind one.
+// Document 01, 'Opcodes of the base', and document 02, T-01: the opcodes by their names on the paper, and what was read behind one.
 use numbers::place::VarNo;
 
 // Those that go elsewhere, end or do nothing,
@@ -50,6 +50,10 @@ pub enum PenForm {
 
 // and those that paint.
 pub enum PaintForm {
+    Cir,
+    Cirv,
+    Cirs,
+    Cirsv,
     Line,
     Linev,
     Lineto,

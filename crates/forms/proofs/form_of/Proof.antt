@@ -57,4 +57,8 @@ form-of-spec =
     (λ c. search at)
     (λ c. search at)
     (λ c. search at)
+    (λ c. search at)
+    (λ c. search at)
+    (λ c. search at)
+    (λ c. search at)
     (λ c. sym (unknown _ (c .match .rest))))
