@@ -1,29 +1,35 @@
--- Points: what two coordinates that are judged make of a point, what an answer tells of it, and dots there.
+-- Points: what two coordinates that are judged make of a point, what an answer tells of it, and dots there. And circles: what a radius makes of one.
 use Prim.Native.Nat.{ℕ, _^_, _<_}
 use mathlib.Core.Path.{_≡_, refl, sym, ap, _∙_}
-use mathlib.Core.Bool.{Bool, true, false, cond, not, _&&_}
+use mathlib.Core.Bool.{Bool, true, false, cond, not, _&&_, _||_}
 use mathlib.Core.List.{List}
 use borrow.Author.Tests.{not-false}
-use lib.IntN.{ℤ, _+ℤ_}
-use lib.Signed.{mag}
+use lib.IntN.{ℤ, pos, _+ℤ_}
+use lib.Signed.{mag, leZ}
 use mir.Syntax.{w32}
 use mir.Val.{toZ, ofZ}
 use mir.Facts.{toZ-ofZ}
-use Rattle.numbers.specs.Coordinate.{inWord, coordinate}
+use Rattle.numbers.specs.Coordinate.{inWord, coordinate, isRadius, radius}
 use Rattle.numbers.specs.declared.coordinate.Coordinate.the-variants.{Within, Outside}
 use Rattle.numbers.specs.declared.place.WordIndex.{WordIndex}
 use Rattle.numbers.proofs.Answers.{told-first, told-second, clash}
 use Rattle.raster.specs.declared.dots.Dot.{Dot}
+use Rattle.raster.specs.Frame.{Coord}
+use Rattle.circles.specs.declared.circle.Circle.{Circle}
+use Rattle.brush.specs.Brush.{Radius}
+use Rattle.brush.proofs.Brushes.{radius-natural, radius-back}
 use Rattle.player.specs.declared.Upshot.{Upshot}
 use Rattle.rules.specs.Opcodes.{far, shifted, dots}
-use Rattle.rules.proofs.Ranges.{one, other}
+use Rattle.rules.proofs.Ranges.{one, other, neither}
 use Rattle.rules.proofs.DoorLaws.{coord}
 use Rattle.act.specs.declared.point.Point as Answer
 use Rattle.act.specs.declared.point.Point.the-variants as Point
+use Rattle.act.specs.declared.point.Round as Rounded
+use Rattle.act.specs.declared.point.Round.the-variants as Round
 use Rattle.act.specs.Lent.{celled, look}
 use Rattle.act.specs.Shown.{does}
 use Rattle.act.specs.Contracts.{Paints, Coords}
-use Rattle.act.specs.Point.{pointUnless, pointOf, pointBy, paired}
+use Rattle.act.specs.Point.{pointUnless, pointOf, pointBy, paired, roundUnless, roundOf}
 
 -- s and t: x and y are within a signed word
 by-both : (s t : Bool) (x y : ℤ)
@@ -72,6 +78,46 @@ module _ {r : Answer.Point} (out : Bool) (p : Dot) (is : r ≡ pointUnless out p
   pub told-at : {q : Dot} → r ≡ Point.At q → (out ≡ false) × (q ≡ p)
   unfolding pointUnless
   told-at e = let t = told-second out (λ o. clash (cc)) (sym is ∙ e) in (t .0, cc)
+
+-- ---- circles: the centre is judged, and then the radius
+is-radius : (z : ℤ) → isRadius z ≡ true → Radius z
+unfolding isRadius
+is-radius z e = record { low = one _ _ e; high = other (leZ (pos 0) z) _ e }
+
+module _ (p : Dot) (z : ℤ) where
+  pub no-centre : far p ≡ true → Round.Outside ≡ roundOf p z
+  unfolding roundUnless
+  no-centre e = rw e
+
+  pub no-radius : far p ≡ false → radius z ≡ Outside → Round.Outside ≡ roundOf p z
+  unfolding roundUnless radius
+  no-radius e r = rw (e, told-second (isRadius z) (λ o. clash (cc)) r .0)
+
+  pub round-judged : {q : Dot} {x : ℤ} → (far p ≡ false) × (q ≡ p) → radius z ≡ Within x → Round.At (record { centre = q; radius = in32 x }) ≡ roundOf p z
+  unfolding roundUnless radius
+  round-judged {q} {x} is r =
+      let t = told-first (isRadius z) (λ o. clash (cc)) r in
+      let same : x ≡ z = cc in
+      let k = is-radius z (t .0) in
+      rw (same, radius-back z k, radius-natural z k, is .1, is .0, t .0)
+
+-- what the answer r tells of the circle k
+module _ {r : Rounded.Round} (out : Bool) (k : Circle) (is : r ≡ roundUnless out k) where
+  pub round-outside : r ≡ Round.Outside → out ≡ true
+  unfolding roundUnless
+  round-outside e = told-first out (λ o. clash (cc)) (sym is ∙ e) .0
+
+  pub round-at : {l : Circle} → r ≡ Round.At l → (out ≡ false) × (l ≡ k)
+  unfolding roundUnless
+  round-at e = let t = told-second out (λ o. clash (cc)) (sym is ∙ e) in (t .0, cc)
+
+-- what brush asks of it
+pub round-near : {l : Circle} (p : Dot) (z : ℤ) → ((far p || not (isRadius z)) ≡ false) × (l ≡ record { centre = p; radius = z })
+    → Coord (l .centre .x) × Coord (l .centre .y) × Radius (l .radius)
+round-near p z t =
+    let g = neither _ _ (t .0) in
+    let n = near p (g .0) in
+    rw (t .1) (n .0, n .1, is-radius z (not-false (isRadius z) (g .1)))
 
 -- ---- dots at d in the colour c, which is the foreground's
 pub foreground : (d : Dot) (next : WordIndex) {c : ℕ} {u : Upshot} {cs cs' p : List ℕ} → c ≡ celled cs .colour

@@ -7,7 +7,7 @@ use lib.IntN.{ℤ}
 use Rattle.raster.specs.declared.dots.Dot.{Dot}
 use Rattle.raster.specs.declared.frame.Bounds.{Bounds}
 use Rattle.raster.specs.Frame.{Coord}
-use Rattle.brush.specs.Brush.{Full, NearEnds}
+use Rattle.brush.specs.Brush.{Full, Near}
 use Rattle.player.specs.declared.Verdict.{Verdict}
 use Rattle.player.specs.declared.Upshot.{Upshot}
 use Rattle.player.specs.declared.Upshot.the-variants.{Refused}
@@ -48,7 +48,7 @@ pub record Moves (u : Upshot) (shows : Showing) (cs cs' : List ℕ) (ps ps' : Li
 
 -- a brush that can be painted with
 abbrev pub Brushed : List ℕ → Type 0
-Brushed p = Full p × NearEnds p
+Brushed p = Full p × Near p
 
 pub record Paints (u : Upshot) (shows : Showing) (cs cs' p' : List ℕ) : Type 0 where
   pub cells : CellsFull cs'

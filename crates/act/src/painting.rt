@@ -1,5 +1,7 @@
-// Dots, lines and clearing: what is to be painted is left in the brush, and 1 answered, once the last check has passed.
+// Dots, lines, circles and clearing: what is to be painted is left in the brush, and 1 answered, once the last check has passed.
 use crate::point::Point;
+use crate::point::Round;
+use crate::point::circle_of;
 use crate::point::point_by;
 use crate::point::point_of;
 use crate::registers::Cells;
@@ -12,6 +14,7 @@ use crate::registers::set_position;
 use crate::registers::stop;
 use brush::Brush;
 use brush::hold_all;
+use brush::hold_circle;
 use brush::hold_dot;
 use brush::hold_line;
 use fetch::source::Taken;
@@ -23,6 +26,7 @@ use raster::line::Line;
 ghost use mathlib.Core.Path.{_≡_};
 ghost use Prim.Native.Nat.{ℕ};
 ghost use Rattle.raster.specs.Line as Lines;
+ghost use Rattle.circles.specs.Circle as Circles;
 ghost use Rattle.rules.specs.Environment.{moved};
 ghost use Rattle.rules.specs.Op as Op;
 ghost use Rattle.rules.specs.Opcodes as Opcodes;
@@ -76,7 +80,7 @@ pub fn pixel_colour(t: Taken, cells: &mut Cells, brush: &mut Brush) -> Upshot
     }
 }
 
-// Only lines of type 0 are drawn.
+// Lines and circles are drawn in type 0 only.
 fn other_type(given: u32) -> bool
     ensures { λ r. ⌜ r ≡ Opcodes.otherType given ⌝ }
 {
@@ -166,6 +170,28 @@ pub fn line_by(t: Taken, cells: &mut Cells, points: &mut Points, brush: &mut Bru
                 return refuse(cells, 25);
             };
             draw_to(q, next, cells, points, brush)
+        }
+    }
+}
+
+// A circle in the foreground colour, filled or the outline alone. a: its type; b, c: x and y of its centre; d: its radius.
+pub fn circle(t: Taken, filled: bool, cells: &mut Cells, brush: &mut Brush) -> Upshot
+    requires { ⌜ Handed (now cells) (now brush) ⌝ }
+    ensures { λ q.
+        ⌜ Paints q (answers t (Opcodes.circles (Circles.circle filled)))
+        (now (cells .entry)) (now (cells .exit)) (now (brush .exit)) ⌝ }
+{
+    match t {
+        Taken::Refused(n, i) => stop(cells, n, i),
+        Taken::Got(o, next) => {
+            if other_type(o.a) {
+                return refuse(cells, 24);
+            }
+            let Round::At(k) = circle_of(o.b, o.c, o.d) else {
+                return refuse(cells, 25);
+            };
+            hold_circle(brush, k, filled, colour(&*cells));
+            finish_painting(cells, next)
         }
     }
 }

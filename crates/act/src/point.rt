@@ -1,12 +1,15 @@
-// Points: two values, or two offsets from a point, each coordinate judged.
+// Points: two values, or two offsets from a point, each coordinate judged; and circles: a point and a radius.
+use circles::circle::Circle;
 use numbers::coordinate::Coordinate;
 use numbers::coordinate::coordinate_of;
+use numbers::coordinate::radius_of;
 use numbers::coordinate::shifted;
 use raster::dots::Dot;
 ghost use mathlib.Core.Path.{_≡_};
+ghost use Rattle.numbers.specs.Number.{signed32};
 ghost use Rattle.rules.specs.Opcodes as Opcodes;
 ghost use Rattle.act.specs.Point as Judged;
-ghost use Rattle.act.specs.Point.{pointOf, pointBy};
+ghost use Rattle.act.specs.Point.{pointOf, pointBy, roundOf};
 
 pub enum Point {
     At(Dot),
@@ -40,4 +43,22 @@ pub fn point_by(from: Dot, a: u32, b: u32) -> Point
         return Point::Outside;
     };
     paired(shifted(from.x, d.x), shifted(from.y, d.y))
+}
+
+pub enum Round {
+    At(Circle),
+    Outside,
+}
+
+// A circle around the point (x, y).
+pub fn circle_of(x: u32, y: u32, radius: u32) -> Round
+    ensures { λ r. ⌜ r ≡ roundOf (Opcodes.point x y) (signed32 radius) ⌝ }
+{
+    let Point::At(centre) = point_of(x, y) else {
+        return Round::Outside;
+    };
+    let Coordinate::Within(radius) = radius_of(radius) else {
+        return Round::Outside;
+    };
+    Round::At(Circle { centre, radius })
 }

@@ -30,22 +30,20 @@ pub fn step(
         (now (cells .entry)) (now (cells .exit)) (now (points .entry)) (now (points .exit)) (now (brush .exit)) ⌝ }
 {
     match form {
+        PaintForm::Cir => painting::circle(plain(words, pc, 4), false, cells, brush),
+        PaintForm::Cirv => painting::circle(variables(words, pc, vars, 4), false, cells, brush),
+        PaintForm::Cirs => painting::circle(plain(words, pc, 4), true, cells, brush),
+        PaintForm::Cirsv => painting::circle(variables(words, pc, vars, 4), true, cells, brush),
         PaintForm::Line => painting::line(plain(words, pc, 5), cells, brush),
         PaintForm::Linev => painting::line(variables(words, pc, vars, 5), cells, brush),
         PaintForm::Lineto => painting::line_to(plain(words, pc, 3), cells, points, brush),
-        PaintForm::Linetov => painting::line_to(
-            variables(words, pc, vars, 3),
-            cells,
-            points,
-            brush,
-        ),
+        PaintForm::Linetov => {
+            painting::line_to(variables(words, pc, vars, 3), cells, points, brush)
+        }
         PaintForm::Linetor => painting::line_by(plain(words, pc, 3), cells, points, brush),
-        PaintForm::Linetorv => painting::line_by(
-            variables(words, pc, vars, 3),
-            cells,
-            points,
-            brush,
-        ),
+        PaintForm::Linetorv => {
+            painting::line_by(variables(words, pc, vars, 3), cells, points, brush)
+        }
         PaintForm::Pixel => painting::pixel(plain(words, pc, 2), cells, brush),
         PaintForm::Pixelv => painting::pixel(variables(words, pc, vars, 2), cells, brush),
         PaintForm::Pixelc => painting::pixel_colour(word2_long(words, pc), cells, brush),

@@ -9,6 +9,7 @@ use borrow.Author.Needs.{needs}
 use lib.ListN.{length}
 use lib.IntN.{ℤ}
 use Rattle.raster.specs.declared.frame.Bounds.{Bounds}
+use Rattle.brush.proofs.Brushes.{unasked}
 use Rattle.player.specs.declared.State.the-variants.{Running}
 use Rattle.player.specs.Run.{runs}
 use Rattle.player.specs.Shown.{marks, brushed}
@@ -68,7 +69,7 @@ step-requires c κs =
       bounds = l .before .before .before .before .before .before .args .b;
       ranges = r .ranges;
       full = r .full;
-      brush = (refl, λ z. absurd (omega (arith, z)));
+      brush = (refl, unasked 0 refl refl);
     }
 
 returns-2 : tie.Need-returns-2 Inv-loop μ-loop
