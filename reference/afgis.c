@@ -1,5 +1,5 @@
 /*
- * AFGIS display lists by documents 01 and 02, in plain C. The sections follow 01's; a sentence in
+ * AFGIS display lists by documents 01 and 02, in plain C. The sections follow 01's, with one for 02's circles; a sentence in
  * quotation marks is one of these papers' own. The condition numbers and RTRN's number come from document 004.
  */
 
@@ -185,6 +185,40 @@ static void paint_line(struct machine *m, int32_t x0, int32_t y0, int32_t x1, in
         int64_t dot_y = y + (x_is_long ? aside(k, end_y - y, n) : k);
         paint(m, (int32_t)dot_x, (int32_t)dot_y, m->env->colour);
     }
+}
+
+struct circle {
+    int32_t x, y, radius;
+};
+
+/* Whether a dot belongs to a circle: to the filled one or to its outline. */
+typedef int shape(const struct circle *circle, int32_t x, int32_t y);
+
+/* "The square of its x distance plus the square of its y distance is at most the square of the radius." */
+static int is_in_circle(const struct circle *circle, int32_t x, int32_t y)
+{
+    int64_t across = distance(circle->x, x);
+    int64_t down = distance(circle->y, y);
+    int64_t radius = circle->radius;
+
+    return across * across + down * down <= radius * radius;
+}
+
+/* "The dots of the filled circle with at least one of four neighbours outside it." */
+static int is_on_outline(const struct circle *circle, int32_t x, int32_t y)
+{
+    return is_in_circle(circle, x, y)
+        && (!is_in_circle(circle, x - 1, y) || !is_in_circle(circle, x + 1, y)
+            || !is_in_circle(circle, x, y - 1) || !is_in_circle(circle, x, y + 1));
+}
+
+/* Every dot of the screen is asked. */
+static void paint_circle(struct machine *m, const struct circle *circle, shape *belongs)
+{
+    for (int32_t y = 0; y < (int32_t)m->env->height; y++)
+        for (int32_t x = 0; x < (int32_t)m->env->width; x++)
+            if (belongs(circle, x, y))
+                paint(m, x, y, m->env->colour);
 }
 
 /* ---- Opcodes of the base: words, longs, variables ---- */
@@ -738,6 +772,36 @@ static int clear_window_v(struct machine *m)
     return refusal != DONE ? refusal : clear(m, 2, (uint32_t)v[0]);
 }
 
+/* ---- Opcodes of 02's T-01: circles ---- */
+
+/* "Only type 0, outline too; others are 24." "A radius outside 0 to 32,767 is 25, and comes with the coordinates in the order
+   of checks." "No circle moves the position." */
+static int draw_circle(struct machine *m, uint32_t length, shape *belongs, int32_t type, struct circle circle)
+{
+    if (type != 0)
+        return NOT_ALLOWED;
+    if (!fits_word(circle.x) || !fits_word(circle.y) || !is_between(circle.radius, 0, 32767))
+        return OUT_OF_RANGE;
+    paint_circle(m, &circle, belongs);
+    return done(m, length);
+}
+
+static int circle(struct machine *m, shape *belongs)
+{
+    if (is_cut(m, 5))
+        return CUT;
+    return draw_circle(m, 5, belongs, signed_word_at(m, 1),
+                       (struct circle){ signed_word_at(m, 2), signed_word_at(m, 3), signed_word_at(m, 4) });
+}
+
+static int circle_v(struct machine *m, shape *belongs)
+{
+    int32_t v[4];
+    int refusal = read_variables(m, 4, v);
+
+    return refusal != DONE ? refusal : draw_circle(m, 2, belongs, v[0], (struct circle){ v[1], v[2], v[3] });
+}
+
 /* ---- Opcodes of the base: "one decision over the opcode word" ---- */
 
 static int carry_out(struct machine *m)
@@ -753,6 +817,10 @@ static int carry_out(struct machine *m)
     case 0x0007: return variable_form(m, AND);       /* ANDVV Vs Vd */
     case 0x000E: return call_absolute(m);            /* CAL long */
     case 0x000F: return call_absolute_v(m);          /* CALV V */
+    case 0x0012: return circle(m, is_on_outline);    /* CIR type x y radius */
+    case 0x0013: return circle_v(m, is_on_outline);  /* CIRV Vi */
+    case 0x0014: return circle(m, is_in_circle);     /* CIRS type x y radius */
+    case 0x0015: return circle_v(m, is_in_circle);   /* CIRSV Vi */
     case 0x0016: return clip_mode(m);                /* CLIPMODE mode */
     case 0x0017: return clip_mode_v(m);              /* CLIPMODEV V */
     case 0x0018: return clip_window(m);              /* CLIPWIN x0 y0 x1 y1 */

@@ -9,11 +9,12 @@ enum { MOST_WORDS = 65536, MOST_STEPS = 1000000, MOST_SIDE = 2048 };
 /* Room for lists and screens somewhat longer than any that is allowed. */
 enum { LIST_ROOM = MOST_WORDS + 64, SCREEN_ROOM = MOST_SIDE * MOST_SIDE + 4 * MOST_SIDE };
 
-/* Whatever is counted belongs to one of these groups. A call has at most one member of each, but for the last four:
-   those are counted for each CLRWIN and each line on its way. */
+/* Whatever is counted belongs to one of these groups. A call has at most one member of each, but for the last seven:
+   those are counted for each CLRWIN, each line and each circle on its way. */
 enum group {
     CALLS, LISTS, ENVIRONMENTS, BROKEN_FIELDS, SIZES, PANES, WINDOWS, MODES, BUDGETS, SCREENS,
     DOOR_PAIRS, OPCODE_PAIRS, SLICED, SLICES, FRESH_CALLS, NUMBERS, PLACES, MISNAMED, CLEARINGS, LINES, HALVES, CUTS,
+    FILLED_CIRCLES, OUTLINES, REFUSED_CIRCLES,
     GROUPS
 };
 
@@ -74,6 +75,19 @@ enum { HALF_RISING, HALF_FALLING };
 /* Which dots of a line are not drawable: none, all, or those before its first drawable dot and those behind its last, where
    its place on the long axis is outside or on the other one. */
 enum { CUT_NOWHERE, CUT_TO_NOTHING, CUT_START_LONG, CUT_START_OTHER, CUT_END_LONG, CUT_END_OTHER };
+
+/* A circle that was drawn: its radius; what of the filled one is drawable: all, a part, none, or every drawable dot; where some
+   is, whether the window takes more away than the pane does, and whether the centre is more than 2,048 off the screen. */
+enum {
+    CIRCLE_RADIUS_0, CIRCLE_RADIUS_1, CIRCLE_RADIUS_32767, CIRCLE_WHOLE, CIRCLE_CUT, CIRCLE_OUTSIDE, CIRCLE_COVERS,
+    CIRCLE_CUT_BY_WINDOW, CIRCLE_FROM_FAR
+};
+
+/* What was wrong about a circle: the type, alone or with what would be 25; the centre, the radius, or both. */
+enum {
+    REFUSED_TYPE_1, REFUSED_TYPE_AND_CENTRE, REFUSED_TYPE_AND_RADIUS, REFUSED_CENTRE, REFUSED_CENTRE_AND_RADIUS,
+    REFUSED_RADIUS_32768, REFUSED_RADIUS_ABOVE, REFUSED_RADIUS_BELOW_0
+};
 
 enum { NOT_OF_A_KIND = -1, NO_EXPECTATION = -1 };
 

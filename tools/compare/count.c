@@ -1,4 +1,5 @@
 #include "area.h"
+#include "circles.h"
 #include "count.h"
 #include "forms.h"
 #include "libc.h"
@@ -46,6 +47,13 @@ static const struct {
     [HALVES] = { "lines with a dot halfway", { "rising", "falling" } },
     [CUTS] = { "lines cut", { "nowhere", "to nothing", "at the start by the long axis", "at the start by the other",
                               "at the end by the long axis", "at the end by the other" } },
+    [FILLED_CIRCLES] = { "filled circles", { "radius 0", "radius 1", "radius 32767", "whole", "cut", "outside",
+                                             "over all that is drawable", "cut by the window", "from far outside" } },
+    [OUTLINES] = { "outlines", { "radius 0", "radius 1", "radius 32767", "whole", "cut", "outside",
+                                 "around all that is drawable", "cut by the window", "from far outside" } },
+    [REFUSED_CIRCLES] = { "circles refused", { "24 type 1", "24+25 centre", "24+25 radius", "25 centre",
+                                               "25 centre and radius", "25 radius 32768", "25 radius above",
+                                               "25 radius below 0" } },
 };
 
 static uint64_t kinds_met[GROUPS][MOST_MEMBERS];
@@ -121,6 +129,7 @@ static void count_forms(const struct call *call)
         if (before.counter < call->words) {
             count_form(call->list[before.counter], answer);
             count_clearing(call->list[before.counter], answer, &env);
+            count_circle(call->list + before.counter, &before, answer);
         }
         if (answer.number == 23)
             count_misnamed(call->list + before.counter);

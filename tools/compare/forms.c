@@ -46,6 +46,10 @@ const struct form forms[FORMS] = {
     { 0x007D, "LINETOV", "i", "txy", "2345" },
     { 0x007E, "LINETOR", "tdd", "", "245" },
     { 0x007F, "LINETORV", "i", "tdd", "2345" },
+    { 0x0012, "CIR", "thkq", "", "245" },
+    { 0x0013, "CIRV", "i", "thkq", "2345" },
+    { 0x0014, "CIRS", "thkq", "", "245" },
+    { 0x0015, "CIRSV", "i", "thkq", "2345" },
     { 0x0188, "CLRWIN", "ow", "", "2" },
     { 0x0189, "CLRWINV", "i", "ow", "23" },
 };

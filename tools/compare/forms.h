@@ -1,4 +1,4 @@
-/* The 47 forms of document 01's base, as the makers of lists and the counts need them. */
+/* The 47 forms of document 01's base and the four of 02's circles, as the makers of lists and the counts need them. */
 #ifndef FORMS_H
 #define FORMS_H
 
@@ -6,8 +6,9 @@
 
 /*
  * Letters: l long, w word, v variable number, i number of the first of several variables,
- * c condition, a bit address (long), r offset in words, m mode, t line type,
- * x and y coordinates, d offset in dots, o colour (long).
+ * c condition, a bit address (long), r offset in words, m mode, t line or circle type,
+ * x and y coordinates, d offset in dots, o colour (long),
+ * h and k a circle's centre, across and down, q its radius.
  */
 struct form {
     uint16_t opcode;
@@ -17,7 +18,7 @@ struct form {
     const char *refusals;  /* which of 22 to 29 it can meet: their last digits */
 };
 
-enum { FORMS = 47 };
+enum { FORMS = 51 };
 
 extern const struct form forms[FORMS];
 

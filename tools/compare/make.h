@@ -4,6 +4,11 @@
 
 #include "call.h"
 
+/* A circle to be drawn; its radius is mostly allowed. */
+struct circle {
+    int32_t x, y, radius;
+};
+
 /* What ovenlute_fresh is given, and what it was made to be. */
 struct request {
     uint32_t width, height;
@@ -35,6 +40,12 @@ int32_t edge_value(void);
 
 /* A coordinate for a screen side of this length: mostly on the screen or close by. */
 int32_t make_coordinate(uint32_t side, int is_far);
+
+/* A circle for a screen and a pane: often one whose edge is in the pane or close by. */
+struct circle make_circle(const struct ovenlute_bounds *bounds);
+
+/* A radius that isn't allowed; its low word may be. */
+int32_t bad_radius(void);
 
 /* Screen size, pane, window and all other fields in range; `is_far` allows points far off the screen. */
 void make_env(struct call *call, int is_far);

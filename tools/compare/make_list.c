@@ -20,6 +20,7 @@ struct sketch {
     size_t opcodes;
     struct target targets[MOST_TARGETS];
     size_t jumps;
+    struct circle circle;  /* that the opcode draws, if it draws one */
 };
 
 /* ---- words ---- */
@@ -98,6 +99,12 @@ static int32_t make_value(const struct sketch *sketch, char letter)
         return make_coordinate(bounds->width, sketch->is_far);
     case 'y':
         return make_coordinate(bounds->height, sketch->is_far);
+    case 'h':
+        return sketch->circle.x;
+    case 'k':
+        return sketch->circle.y;
+    case 'q':
+        return sketch->circle.radius;
     case 'd':
         return make_offset(sketch);
     case 'o':
@@ -187,6 +194,11 @@ static void put_edge_loads(struct sketch *sketch, const uint16_t *variables)
         put_load(sketch, is_smallest_by_minus_one ? INT32_MIN : edge_value(), variables[1]);
 }
 
+static int draws_circle(const struct form *form)
+{
+    return strchr(form->operands, 'q') || strchr(form->implied, 'q');
+}
+
 /* One opcode of this form, at times with its variables loaded before. */
 static void put_form(struct sketch *sketch, const struct form *form)
 {
@@ -195,6 +207,8 @@ static void put_form(struct sketch *sketch, const struct form *form)
     size_t earlier_jumps = sketch->jumps;
     int named = 0;
 
+    if (draws_circle(form))
+        sketch->circle = make_circle(&sketch->call->env.bounds);
     variables[0] = make_variable_number(implied > 0 ? implied : 1);
     variables[1] = make_variable_number(1);
     if (implied > 0 && variables[0] + implied <= VARIABLES && one_in(2))

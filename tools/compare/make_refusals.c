@@ -81,7 +81,9 @@ static uint32_t zero_variable(struct call *call)
 /* ---- the pairs ---- */
 
 static const uint16_t divisions[] = { 0x0045, 0x0081 };
-static const uint16_t line_v_forms[] = { 0x0075, 0x007D, 0x007F };
+static const uint16_t typed_v_forms[] = { 0x0075, 0x007D, 0x007F, 0x0013, 0x0015 };
+static const uint16_t circles[] = { 0x0012, 0x0014 };
+static const uint16_t circle_v_forms[] = { 0x0013, 0x0015 };
 
 /* Vs above 63, and no Vd. */
 static void make_22_23(struct call *call)
@@ -96,13 +98,13 @@ static void make_22_23(struct call *call)
 static void make_22_24(struct call *call)
 {
     static const uint16_t jumps[] = { 0x010A, 0x010C };
-    static const uint16_t lines[] = { 0x0074, 0x007C, 0x007E };
+    static const uint16_t typed[] = { 0x0074, 0x007C, 0x007E, 0x0012, 0x0014 };
 
     if (one_in(2)) {
         put_one_of(call, jumps, 2);
         put(call, bad_condition());
     } else {
-        put_one_of(call, lines, 3);
+        put_one_of(call, typed, 5);
         put(call, bad_type());
         put(call, between(-2, 9));
     }
@@ -143,7 +145,7 @@ static void make_23_24(struct call *call)
     int32_t number = between(62, 63);
 
     call->env.variables[number] = bad_type();
-    put_one_of(call, line_v_forms, 3);
+    put_one_of(call, typed_v_forms, 5);
     put(call, number);
 }
 
@@ -158,7 +160,7 @@ static void make_23_25(struct call *call)
         put_one_of(call, pairs, 5);
         put(call, 63);
     } else {
-        put_one_of(call, line_v_forms, 3);
+        put_one_of(call, typed_v_forms, 5);
         put(call, 62);
     }
 }
@@ -181,8 +183,27 @@ static void make_23_28(struct call *call)
     put(call, bad_variable());
 }
 
+/* A wrong type and a radius out of range. */
+static void make_circle_24_25(struct call *call)
+{
+    int32_t number = between(0, 60);
+
+    if (one_in(2)) {
+        put_one_of(call, circles, 2);
+        put(call, bad_type());
+        put(call, between(-2, 9));
+        put(call, between(-2, 9));
+        put(call, between(-32768, -1));
+    } else {
+        call->env.variables[number] = bad_type();
+        call->env.variables[number + 3] = bad_radius();
+        put_one_of(call, circle_v_forms, 2);
+        put(call, number);
+    }
+}
+
 /* A wrong type and a point out of range. */
-static void make_24_25(struct call *call)
+static void make_point_24_25(struct call *call)
 {
     int32_t number = between(0, 59);
 
@@ -195,9 +216,17 @@ static void make_24_25(struct call *call)
     } else {
         call->env.variables[number] = bad_type();
         call->env.variables[number + between(1, 2)] = bad_coordinate();
-        put_one_of(call, line_v_forms, 3);
+        put_one_of(call, typed_v_forms, 5);
         put(call, number);
     }
+}
+
+static void make_24_25(struct call *call)
+{
+    if (one_in(3))
+        make_circle_24_25(call);
+    else
+        make_point_24_25(call);
 }
 
 /* A wrong condition and a target that isn't allowed. */
