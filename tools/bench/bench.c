@@ -1,7 +1,7 @@
 /*
  * How long the box takes against plain C for the same work: ratios of the best of some trials. "Plain C" is
- * plain.c (Bresenham, a test per dot; memset row by row), "reference" is reference/afgis.c (a division and a
- * test per dot; a test per pixel), "memset" is one memset over the whole screen.
+ * plain.c (Bresenham, a test per dot; memset row by row; circles by the half width of each row), "reference" is
+ * reference/afgis.c (a division and a test per dot; a test per pixel), "memset" is one memset over the whole screen.
  */
 
 #include "afgis.h"
@@ -11,6 +11,7 @@
 
 enum { WIDTH = 1024, HEIGHT = 768, MOST_SIDE = 2048, MOST_BYTES = MOST_SIDE * MOST_SIDE };
 enum { MOST_WORDS = 65536, STEPS = 1000000, TRIALS = 15, CLEARINGS = 20 };
+enum { FEW_STEPS = 12, PANE_TOP = 400, PANE_BOTTOM = 409 };
 
 /* One kind of work: a list, run some times from a fresh environment. */
 struct work {
@@ -20,6 +21,7 @@ struct work {
     struct ovenlute_pane pane;
     int runs;
     int is_memset;  /* one memset would do the same */
+    int is_slow;    /* the reference would take far too long: it tests every pixel for each circle */
 };
 
 static uint16_t list[MOST_WORDS];
@@ -123,6 +125,66 @@ static void make_dots(void)
     put(0x0001);
 }
 
+static void put_circle(uint16_t opcode, int32_t x, int32_t y, int32_t radius)
+{
+    put(opcode);
+    put(0);
+    put(x);
+    put(y);
+    put(radius);
+}
+
+static void put_circles(uint16_t opcode, int32_t radius, int count)
+{
+    for (int i = 0; i < count; i++) {
+        int32_t x = between(0, WIDTH - 1), y = between(0, HEIGHT - 1);
+        put_circle(opcode, x, y, radius);
+    }
+    put(0x0001);
+}
+
+static void make_discs_of_3(void)
+{
+    put_circles(0x0014, 3, 10000);
+}
+
+static void make_discs_of_40(void)
+{
+    put_circles(0x0014, 40, 1000);
+}
+
+static void make_discs_of_400(void)
+{
+    put_circles(0x0014, 400, 100);
+}
+
+static void make_outlines_of_3(void)
+{
+    put_circles(0x0012, 3, 10000);
+}
+
+static void make_outlines_of_40(void)
+{
+    put_circles(0x0012, 40, 1000);
+}
+
+static void make_outlines_of_400(void)
+{
+    put_circles(0x0012, 400, 100);
+}
+
+/* The edge crosses the pane upright or level, or all of the pane is inside. */
+static void make_largest_discs(void)
+{
+    for (int i = 0; i < 100; i++) {
+        int32_t x = between(0, WIDTH - 1), y = between(PANE_TOP, PANE_BOTTOM);
+        put_circle(0x0014, x - 32767, y, 32767);
+        put_circle(0x0014, x, y - 32767, 32767);
+        put_circle(0x0014, 20 * (x - WIDTH / 2), 20 * (x - WIDTH / 2), 32767);
+    }
+    put(0x0001);
+}
+
 static void make_clear(void)
 {
     for (int i = 0; i < CLEARINGS; i++) {
@@ -137,18 +199,26 @@ static void make_clear(void)
 #define WHOLE(width, height) width, height, { 0, 0, width - 1, height - 1 }
 #define PANE(width, height) width, height, { 400, 300, 599, 449 }
 #define COLUMNS(width, height) width, height, { 400, 0, 409, height - 1 }
+#define ROWS(width, height) width, height, { 0, PANE_TOP, width - 1, PANE_BOTTOM }
 
 static const struct work works[] = {
-    { "arithmetic loop", make_loop, WHOLE(WIDTH, HEIGHT), 4, 0 },
-    { "lines on the screen", make_lines, WHOLE(WIDTH, HEIGHT), 4, 0 },
-    { "short lines, up to 8 dots", make_short_lines, WHOLE(WIDTH, HEIGHT), 10, 0 },
-    { "lines mostly outside the pane", make_far_lines, PANE(WIDTH, HEIGHT), 1, 0 },
-    { "lines of 65,536 dots through ten columns", make_long_lines, COLUMNS(WIDTH, HEIGHT), 1, 0 },
-    { "single dots", make_dots, WHOLE(WIDTH, HEIGHT), 20, 0 },
-    { "CLRWIN, a whole screen of 2,048 x 2,048", make_clear, WHOLE(2048, 2048), 2, 1 },
-    { "CLRWIN, a whole screen of 640 x 480", make_clear, WHOLE(640, 480), 20, 1 },
-    { "CLRWIN, a pane of 200 x 150 in 640 x 480", make_clear, PANE(640, 480), 40, 0 },
-    { "CLRWIN, a pane of 200 x 150 in 2,048 x 2,048", make_clear, PANE(2048, 2048), 10, 0 },
+    { "arithmetic loop", make_loop, WHOLE(WIDTH, HEIGHT), 4, 0, 0 },
+    { "lines on the screen", make_lines, WHOLE(WIDTH, HEIGHT), 4, 0, 0 },
+    { "short lines, up to 8 dots", make_short_lines, WHOLE(WIDTH, HEIGHT), 10, 0, 0 },
+    { "lines mostly outside the pane", make_far_lines, PANE(WIDTH, HEIGHT), 1, 0, 0 },
+    { "lines of 65,536 dots through ten columns", make_long_lines, COLUMNS(WIDTH, HEIGHT), 1, 0, 0 },
+    { "single dots", make_dots, WHOLE(WIDTH, HEIGHT), 20, 0, 0 },
+    { "discs of radius 3", make_discs_of_3, WHOLE(WIDTH, HEIGHT), 10, 0, 1 },
+    { "discs of radius 40", make_discs_of_40, WHOLE(WIDTH, HEIGHT), 10, 0, 1 },
+    { "discs of radius 400", make_discs_of_400, WHOLE(WIDTH, HEIGHT), 4, 0, 1 },
+    { "outlines of radius 3", make_outlines_of_3, WHOLE(WIDTH, HEIGHT), 10, 0, 1 },
+    { "outlines of radius 40", make_outlines_of_40, WHOLE(WIDTH, HEIGHT), 4, 0, 1 },
+    { "outlines of radius 400", make_outlines_of_400, WHOLE(WIDTH, HEIGHT), 10, 0, 1 },
+    { "discs of radius 32,767 through ten rows", make_largest_discs, ROWS(WIDTH, HEIGHT), 4, 0, 1 },
+    { "CLRWIN, a whole screen of 2,048 x 2,048", make_clear, WHOLE(2048, 2048), 2, 1, 0 },
+    { "CLRWIN, a whole screen of 640 x 480", make_clear, WHOLE(640, 480), 20, 1, 0 },
+    { "CLRWIN, a pane of 200 x 150 in 640 x 480", make_clear, PANE(640, 480), 40, 0, 0 },
+    { "CLRWIN, a pane of 200 x 150 in 2,048 x 2,048", make_clear, PANE(2048, 2048), 10, 0, 0 },
 };
 
 enum { WORKS = sizeof works / sizeof works[0] };
@@ -156,48 +226,48 @@ enum { WORKS = sizeof works / sizeof works[0] };
 /* ---- the sides ---- */
 
 typedef struct afgis_answer c_run(const uint16_t *, size_t, uint8_t *, size_t, struct afgis_env *, uint32_t);
-typedef struct afgis_answer side(const struct work *);
+typedef struct afgis_answer side(const struct work *, uint32_t budget);
 
 static size_t bytes_of(const struct work *work)
 {
     return (size_t)work->width * work->height;
 }
 
-static struct afgis_answer run_c(const struct work *work, c_run *run)
+static struct afgis_answer run_c(const struct work *work, uint32_t budget, c_run *run)
 {
     const struct ovenlute_pane *pane = &work->pane;
     struct afgis_env env;
 
     afgis_fresh(work->width, work->height, pane->left, pane->top, pane->right, pane->bottom, &env);
-    return run(list, words, screen, bytes_of(work), &env, STEPS);
+    return run(list, words, screen, bytes_of(work), &env, budget);
 }
 
-static struct afgis_answer run_box(const struct work *work)
+static struct afgis_answer run_box(const struct work *work, uint32_t budget)
 {
     struct ovenlute_made made = ovenlute_fresh(work->width, work->height, work->pane);
-    struct ovenlute_done done = ovenlute_run(list, words, screen, bytes_of(work), &made.env, STEPS);
+    struct ovenlute_done done = ovenlute_run(list, words, screen, bytes_of(work), &made.env, budget);
     struct afgis_answer answer = { done.number, done.place, done.steps };
 
     return answer;
 }
 
-static struct afgis_answer run_plain(const struct work *work)
+static struct afgis_answer run_plain(const struct work *work, uint32_t budget)
 {
-    return run_c(work, plain_run);
+    return run_c(work, budget, plain_run);
 }
 
-static struct afgis_answer run_reference(const struct work *work)
+static struct afgis_answer run_reference(const struct work *work, uint32_t budget)
 {
-    return run_c(work, afgis_run);
+    return run_c(work, budget, afgis_run);
 }
 
 /* The C library's memset over the whole screen, as often as the list clears it. */
-static struct afgis_answer run_memset(const struct work *work)
+static struct afgis_answer run_memset(const struct work *work, uint32_t budget)
 {
     struct afgis_answer answer = { 0, 0, CLEARINGS };
 
-    for (int i = 0; i < CLEARINGS; i++)
-        library_memset(screen, i, bytes_of(work));
+    for (uint32_t i = 0; i < CLEARINGS && i < budget; i++)
+        library_memset(screen, (int)i, bytes_of(work));
     return answer;
 }
 
@@ -205,26 +275,27 @@ enum { BOX, PLAIN, REFERENCE, MEMSET, SIDES };
 
 static side *const sides[SIDES] = { run_box, run_plain, run_reference, run_memset };
 
-static struct afgis_answer run_on_zeros(side *run, const struct work *work)
+static struct afgis_answer run_on_zeros(side *run, const struct work *work, uint32_t budget)
 {
     memset(screen, 0, sizeof screen);
-    return run(work);
+    return run(work, budget);
 }
 
-/* The side must do what the box did, whose screen is kept. */
-static int does_the_same(side *run, const struct work *work, struct afgis_answer box)
+/* The side must do what the box does, whose screen is kept. */
+static int does_the_same(side *run, const struct work *work, uint32_t budget)
 {
-    struct afgis_answer answer = run_on_zeros(run, work);
+    struct afgis_answer box = run_on_zeros(run_box, work, budget), answer;
 
+    memcpy(box_screen, screen, sizeof screen);
+    answer = run_on_zeros(run, work, budget);
     return answer.number == box.number && answer.steps == box.steps && memcmp(screen, box_screen, sizeof screen) == 0;
 }
 
+/* The reference does the first few steps where it is slow. */
 static int all_do_the_same(const struct work *work)
 {
-    struct afgis_answer box = run_on_zeros(run_box, work);
-
-    memcpy(box_screen, screen, sizeof screen);
-    return does_the_same(run_plain, work, box) && does_the_same(run_reference, work, box);
+    return does_the_same(run_plain, work, STEPS)
+        && does_the_same(run_reference, work, work->is_slow ? FEW_STEPS : STEPS);
 }
 
 /* ---- times ---- */
@@ -244,8 +315,13 @@ static double time_of(side *run, const struct work *work)
     double start = now();
 
     for (int i = 0; i < work->runs; i++)
-        run(work);
+        run(work, STEPS);
     return (now() - start) / work->runs;
+}
+
+static int is_timed(const struct work *work, int turn)
+{
+    return turn != REFERENCE || !work->is_slow;
 }
 
 /* The best of some trials, in turn and each time another one first, so that all sides meet the same machine. */
@@ -254,7 +330,7 @@ static void measure(const struct work *work, double *best)
     for (int trial = 0; trial < TRIALS; trial++)
         for (int i = 0; i < SIDES; i++) {
             int turn = (trial + i) % SIDES;
-            double time = time_of(sides[turn], work);
+            double time = is_timed(work, turn) ? time_of(sides[turn], work) : 0;
             if (trial == 0 || time < best[turn])
                 best[turn] = time;
         }
@@ -265,15 +341,20 @@ static void print_ratio(double a, double b)
     printf(a < 0.1 * b ? " %.4f |" : " %.2f |", a / b);
 }
 
+static void print_ratio_or_none(int is_there, double a, double b)
+{
+    if (is_there)
+        print_ratio(a, b);
+    else
+        printf(" - |");
+}
+
 static void print_row(const struct work *work, const double *best)
 {
     printf("| %s |", work->name);
     print_ratio(best[BOX], best[PLAIN]);
-    print_ratio(best[BOX], best[REFERENCE]);
-    if (work->is_memset)
-        print_ratio(best[BOX], best[MEMSET]);
-    else
-        printf(" - |");
+    print_ratio_or_none(!work->is_slow, best[BOX], best[REFERENCE]);
+    print_ratio_or_none(work->is_memset, best[BOX], best[MEMSET]);
     printf("\n");
 }
 

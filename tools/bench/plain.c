@@ -83,6 +83,91 @@ static void clear(const struct machine *m, uint8_t colour)
                    (size_t)(area.right - area.left + 1));
 }
 
+struct circle {
+    int32_t x, y, radius;
+};
+
+/* The largest whole number whose square is at most the rest, looked for from the one of the row before. */
+static inline int32_t half_width(int32_t half, int32_t rest)
+{
+    while (half * half > rest)
+        half--;
+    while ((half + 1) * (half + 1) <= rest)
+        half++;
+    return half;
+}
+
+/* The rows of the circle that may be painted. */
+static struct area rows_of(const struct machine *m, struct circle circle)
+{
+    struct area area = drawable(m->env);
+
+    area.top = larger(area.top, circle.y - circle.radius);
+    area.bottom = smaller(area.bottom, circle.y + circle.radius);
+    return area;
+}
+
+/* A row's part each, as wide as the square of the radius leaves room for. */
+static void paint_disc(const struct machine *m, struct circle circle)
+{
+    struct area area = rows_of(m, circle);
+    int32_t half = 0;
+
+    for (int32_t y = area.top; y <= area.bottom; y++) {
+        int32_t down = y - circle.y;
+        half = half_width(half, circle.radius * circle.radius - down * down);
+        int32_t first = larger(area.left, circle.x - half);
+        int32_t last = smaller(area.right, circle.x + half);
+        if (first <= last)
+            memset(m->screen + (uint32_t)y * m->env->width + (uint32_t)first, m->env->colour, (size_t)(last - first + 1));
+    }
+}
+
+static inline void paint_part(const struct machine *m, struct area area, int32_t y, int32_t first, int32_t last)
+{
+    uint8_t *row = m->screen + (uint32_t)y * m->env->width;
+    uint8_t colour = m->env->colour;
+
+    first = larger(area.left, first);
+    last = smaller(area.right, last);
+    for (int32_t x = first; x <= last; x++)
+        row[x] = colour;
+}
+
+/* A row has two parts: what the next row away from the centre doesn't cover, and at least the outermost dot on either side. */
+static void paint_outline(const struct machine *m, struct circle circle)
+{
+    struct area area = rows_of(m, circle);
+    int32_t square = circle.radius * circle.radius;
+    int32_t half = 0;
+
+    for (int32_t y = area.top; y <= area.bottom; y++) {
+        int32_t down = y < circle.y ? circle.y - y : y - circle.y;
+        int32_t inner = 0;
+        half = half_width(half, square - down * down);
+        if (down < circle.radius)
+            inner = smaller(half_width(half, square - (down + 1) * (down + 1)) + 1, half);
+        paint_part(m, area, y, circle.x - half, circle.x - inner);
+        paint_part(m, area, y, circle.x + inner, circle.x + half);
+    }
+}
+
+static int paint_circle(const struct machine *m, const uint16_t *word, uint32_t *counter)
+{
+    struct circle circle = { (int16_t)word[2], (int16_t)word[3], (int16_t)word[4] };
+
+    if (word[1] != 0)
+        return 24;
+    if (circle.radius < 0)
+        return 25;
+    if (word[0] == 0x0014)
+        paint_disc(m, circle);
+    else
+        paint_outline(m, circle);
+    *counter += 5;
+    return 0;
+}
+
 static int32_t long_at(const uint16_t *word)
 {
     return (int32_t)(word[0] | (uint32_t)word[1] << 16);
@@ -134,6 +219,9 @@ static inline int carry_out(struct machine *m, uint32_t *counter)
         env->state = 1;
         *counter += 1;
         return 0;
+    case 0x0012:
+    case 0x0014:
+        return left < 5 ? 22 : paint_circle(m, word, counter);
     case 0x0033:
         if (left < 4)
             return 22;
