@@ -5,7 +5,7 @@ use mathlib.Core.List.{List}
 use Prim.Native.Nat.{ℕ, _%_, _<_}
 use native.Mathlib.Omega.{arith}
 use borrow.Author.Tests.{leb-true, ne-eqb}
-use lib.Dec.{ltb, eqb}
+use lib.Dec.{eqb}
 use lib.IntN.{ℤ, pos, negsuc, natAbs}
 use lib.ListN.{set}
 use mir.Syntax.{w32}
@@ -19,11 +19,11 @@ use Rattle.raster.specs.Line.{line}
 use Rattle.raster.specs.Frame.{Coord}
 use Rattle.raster.specs.Biased.{spotOf, dotOf, lineOf, NearB}
 use Rattle.circles.specs.declared.circle.Circle.{Circle}
-use Rattle.circles.specs.Circle.{circle}
+use Rattle.circles.specs.Circle.{disc, outline, circle}
 use Rattle.circles.specs.Reaches.{circleOf}
-use Rattle.brush.specs.Brush.{kind, one, other, radius, filled, shapeOf, Full, Radius, Near, Holds}
+use Rattle.brush.specs.Brush.{kind, one, other, radius, shapeOf, Full, Radius, Near, Holds}
 use Rattle.raster.proofs.Coordinates.{dot-back}
-use Rattle.brush.proofs.Spelt.{one-by-one}
+use Rattle.brush.proofs.Spelt.{spelt, one-by-one}
 
 pub byte : (c : ℕ) → c < 256 → c % 256 ≡ c
 byte c h = omega (arith, h)
@@ -45,10 +45,10 @@ radius-back z h = rw (sym (radius-natural z h)) (toZ-ofZ {w = w32} (record { sfi
 
 -- a kind of which nothing is asked
 abbrev asks : ℕ → Bool
-asks k = eqb k 2 || eqb k 4
+asks k = eqb k 2 || eqb k 4 || eqb k 5
 
 pub unasked : {p : List ℕ} (k : ℕ) → kind p ≡ k → asks k ≡ false → Near p
-unasked {p} k e h = record { line = λ z. no z refl; circle = λ z. no z refl }
+unasked {p} k e h = record { line = λ z. no z refl; disc = λ z. no z refl; outline = λ z. no z refl }
   where
     no : {j : ℕ} {X : Type 0} → kind p ≡ j → asks j ≡ true → X
     no z t = absurd (true≢false (sym t ∙ ap asks (sym z ∙ e) ∙ h))
@@ -71,33 +71,31 @@ module _ (b : List ℕ) (l : Full b) (c : ℕ) (k : c < 256) where
       (λ b. Holds (line m) c (set (set (set (set (set (set b 0 2) 1 c) 2 (spotOf (m .from) .x)) 3 (spotOf (m .from) .y)) 4 (spotOf (m .to) .x)) 5 (spotOf (m .to) .y))) b l
       (record {
         full = refl;
-        near = record { line = λ z. (near-back (m .from) (h .0, h .1), near-back (m .to) (h .2, h .3)); circle = λ z. absurd (omega (arith, z)) };
+        near = record { line = λ z. (near-back (m .from) (h .0, h .1), near-back (m .to) (h .2, h .3)); disc = λ z. absurd (omega (arith, z)); outline = λ z. absurd (omega (arith, z)) };
         shape = ap line (λ i. record { from = dot-back (m .from) (h .0, h .1) i; to = dot-back (m .to) (h .2, h .3) i });
         colour = byte c k;
       }))
 
   abbrev roundly : Bool → Spot → ℕ → List ℕ → List ℕ
-  roundly filled p q b = set (set (set (set (set (set b 0 4) 1 c) 2 (p .x)) 3 (p .y)) 4 q) 5 (cond filled 1 0)
+  roundly filled p q b = set (set (set (set (set b 0 (cond filled 4 5)) 1 c) 2 (p .x)) 3 (p .y)) 4 q
 
   pub circle-held : (m : Circle) → (Coord (m .centre .x) × Coord (m .centre .y) × Radius (m .radius)) → (filled : Bool) (p : Spot) → p ≡ spotOf (m .centre)
       → Holds (circle filled m) c (roundly filled p (natAbs (m .radius)) b)
   unfolding shapeOf
   circle-held m h filled p e =
-      rw e
-      (one-by-one 0 (λ b. Holds (circle filled m) c (roundly filled (spotOf (m .centre)) (natAbs (m .radius)) b)) b l
-      (record {
-        full = refl;
-        near = record { line = λ z. absurd (omega (arith, z)); circle = λ z. (near-back (m .centre) (h .0, h .1), radius-small (m .radius) (h .2)) };
-        shape = (λ i. circle (is-filled filled i) (same i));
-        colour = byte c k;
-      }))
+      rw e (one-by-one 0 (λ b. Holds (circle filled m) c (roundly filled (spotOf (m .centre)) (natAbs (m .radius)) b)) b l (by filled))
     where
       same : circleOf (spotOf (m .centre)) (natAbs (m .radius)) ≡ m
       same = λ i. record { centre = dot-back (m .centre) (h .0, h .1) i; radius = radius-natural (m .radius) (h .2) i }
 
-      is-filled : (t : Bool) → ltb 0 (cond t 1 0) ≡ t
-      is-filled true = refl
-      is-filled false = refl
+      asked : NearB (spotOf (m .centre)) × (natAbs (m .radius) < 32768)
+      asked = (near-back (m .centre) (h .0, h .1), radius-small (m .radius) (h .2))
+
+      by : (t : Bool) → Holds (circle t m) c (roundly t (spotOf (m .centre)) (natAbs (m .radius)) (spelt 0 6 b))
+      by true =
+          record { full = refl; near = record { line = λ z. absurd (omega (arith, z)); disc = λ z. asked; outline = λ z. asked }; shape = ap disc same; colour = byte c k }
+      by false =
+          record { full = refl; near = record { line = λ z. absurd (omega (arith, z)); disc = λ z. asked; outline = λ z. asked }; shape = ap outline same; colour = byte c k }
 
   pub all-held : Holds all c (set (set b 0 3) 1 c)
   unfolding shapeOf
@@ -119,10 +117,16 @@ module _ (b : List ℕ) where
   unfolding shapeOf
   holds-all e = rw e
 
-  pub holds-circle : kind b ≡ 4 → shapeOf b ≡ circle (filled b) (circleOf (one b) (radius b))
+  pub holds-disc : kind b ≡ 4 → shapeOf b ≡ disc (circleOf (one b) (radius b))
   unfolding shapeOf
-  holds-circle e = rw e
+  holds-disc e = rw e
 
-  pub holds-none : (((Unit {0} × (kind b ≡ 1 → ⊥)) × (kind b ≡ 2 → ⊥)) × (kind b ≡ 3 → ⊥)) × (kind b ≡ 4 → ⊥) → shapeOf b ≡ (λ x y. false)
+  pub holds-outline : kind b ≡ 5 → shapeOf b ≡ outline (circleOf (one b) (radius b))
   unfolding shapeOf
-  holds-none h = rw (ne-eqb (kind b) 1 (h .0 .0 .0 .1), ne-eqb (kind b) 2 (h .0 .0 .1), ne-eqb (kind b) 3 (h .0 .1), ne-eqb (kind b) 4 (h .1))
+  holds-outline e = rw e
+
+  pub holds-none : ((((Unit {0} × (kind b ≡ 1 → ⊥)) × (kind b ≡ 2 → ⊥)) × (kind b ≡ 3 → ⊥)) × (kind b ≡ 4 → ⊥)) × (kind b ≡ 5 → ⊥)
+      → shapeOf b ≡ (λ x y. false)
+  unfolding shapeOf
+  holds-none h =
+      rw (ne-eqb (kind b) 1 (h .0 .0 .0 .0 .1), ne-eqb (kind b) 2 (h .0 .0 .0 .1), ne-eqb (kind b) 3 (h .0 .0 .1), ne-eqb (kind b) 4 (h .0 .1), ne-eqb (kind b) 5 (h .1))

@@ -1,17 +1,17 @@
--- A brush: six numbers that say what is to be painted. 0 the kind of shape, 1 the colour, 2 and 3 a point, biased; 4 and 5 another point, or a radius and whether the circle is filled.
-use mathlib.Core.Bool.{Bool, true, false, cond}
+-- A brush: six numbers that say what is to be painted. 0 the kind of shape, 1 the colour, 2 and 3 a point, biased, 4 and 5 another, or 4 a radius.
+use mathlib.Core.Bool.{true, false, cond}
 use mathlib.Core.Path.{_≡_}
 use mathlib.Core.List.{List}
 use Prim.Native.Nat.{ℕ, _%_, _<_}
 use lib.IntN.{ℤ, pos}
 use lib.Signed.{leZ}
-use lib.Dec.{ltb, eqb}
+use lib.Dec.{eqb}
 use lib.ListN.{length, getD}
 use Rattle.raster.specs.declared.biased.Spot.{Spot}
 use Rattle.raster.specs.Shapes.{Shape, dot, all}
 use Rattle.raster.specs.Line.{line}
 use Rattle.raster.specs.Biased.{dotOf, lineOf, NearB}
-use Rattle.circles.specs.Circle.{circle}
+use Rattle.circles.specs.Circle.{disc, outline}
 use Rattle.circles.specs.Reaches.{circleOf}
 
 abbrev pub kind : List ℕ → ℕ
@@ -24,20 +24,18 @@ one p = record { x = getD p 2 0; y = getD p 3 0 }
 abbrev pub other : List ℕ → Spot
 other p = record { x = getD p 4 0; y = getD p 5 0 }
 
--- or the first is a centre, with a radius, of a circle that is filled or its outline alone
+-- or the first is a centre, with a radius
 abbrev pub radius : List ℕ → ℕ
 radius p = getD p 4 0
 
-abbrev pub filled : List ℕ → Bool
-filled p = ltb 0 (getD p 5 0)
-
--- 1 a dot, 2 a line, 3 every point, 4 a circle, any other none
+-- 1 a dot, 2 a line, 3 every point, 4 a filled circle, 5 a circle's outline, any other none
 abbrev pub shapeBy : ℕ → List ℕ → Shape
 shapeBy k p =
     cond (eqb k 1) (dot (dotOf (one p)))
     (cond (eqb k 2) (line (lineOf (one p) (other p)))
     (cond (eqb k 3) all
-    (cond (eqb k 4) (circle (filled p) (circleOf (one p) (radius p))) (λ x y. false))))
+    (cond (eqb k 4) (disc (circleOf (one p) (radius p)))
+    (cond (eqb k 5) (outline (circleOf (one p) (radius p))) (λ x y. false)))))
 
 -- the shape that the brush holds, and its colour
 unfoldable pub shapeOf : List ℕ → Shape
@@ -58,7 +56,8 @@ pub record Radius (z : ℤ) : Type 0 where
 -- a line's ends are coordinates; a circle's centre is one, and its radius below 32,768
 pub record Near (p : List ℕ) : Type 0 where
   pub line : kind p ≡ 2 → NearB (one p) × NearB (other p)
-  pub circle : kind p ≡ 4 → NearB (one p) × (radius p < 32768)
+  pub disc : kind p ≡ 4 → NearB (one p) × (radius p < 32768)
+  pub outline : kind p ≡ 5 → NearB (one p) × (radius p < 32768)
 
 -- p holds the shape S in the colour c
 pub record Holds (S : Shape) (c : ℕ) (p : List ℕ) : Type 0 where

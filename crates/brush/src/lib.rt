@@ -17,8 +17,8 @@ ghost use Rattle.raster.specs.Paint as Paint;
 ghost use Rattle.circles.specs.Circle.{circle};
 ghost use Rattle.brush.specs.Brush.{Full, Radius, Near, Holds, shapeOf, colourOf};
 
-// 0 the kind: 1 a dot, 2 a line, 3 every dot, 4 a circle, any other nothing; 1 the colour; 2 and 3 a point, biased; 4 and 5 another, or of
-// a circle the radius, and whether it is filled: 0 for the outline alone.
+// 0 the kind: 1 a dot, 2 a line, 3 every dot, 4 a filled circle, 5 a circle's outline, any other nothing; 1 the colour; 2 and 3 a point,
+// biased; 4 and 5 another, or 4 a radius.
 pub type Brush = [u32; 6];
 
 pub fn hold_dot(brush: &mut Brush, d: Dot, c: u8)
@@ -63,12 +63,11 @@ pub fn hold_circle(brush: &mut Brush, k: Circle, filled: bool, c: u8)
     ensures { λ _. ⌜ Holds (circle filled k) c (now (brush .exit)) ⌝ }
 {
     let p = spot_of(k.centre);
-    brush[0] = 4;
+    brush[0] = if filled { 4 } else { 5 };
     brush[1] = c as u32;
     brush[2] = p.x;
     brush[3] = p.y;
     brush[4] = k.radius as u32;
-    brush[5] = if filled { 1 } else { 0 };
 }
 
 // The drawable dots of what the brush holds, in its colour.
@@ -92,7 +91,8 @@ pub fn paint(screen: &mut [u8], f: Frame, brush: &Brush)
             draw_line(screen, f, p, q, c)
         }
         3 => fill(screen, f, c),
-        4 => draw_circle(screen, f, p, brush[4], 0 < brush[5], c),
+        4 => draw_circle(screen, f, p, brush[4], true, c),
+        5 => draw_circle(screen, f, p, brush[4], false, c),
         _ => {}
     }
 }

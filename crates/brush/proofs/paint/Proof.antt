@@ -5,7 +5,7 @@ use Rattle.raster.specs.Shapes.{Shape}
 use Rattle.raster.specs.Paint.{paint}
 use Rattle.brush.specs.Brush.{shapeOf, colourOf}
 use Rattle.raster.proofs.Paintings.{nothing}
-use Rattle.brush.proofs.Brushes.{holds-dot, holds-line, holds-all, holds-circle, holds-none}
+use Rattle.brush.proofs.Brushes.{holds-dot, holds-line, holds-all, holds-disc, holds-outline, holds-none}
 use Rattle.brush.proofs.paint.Statement.{statement}
 use Rattle.brush.proofs.paint.Tie as tie
 
@@ -23,11 +23,17 @@ draw-line-requires c κs =
     let s = S (k .before) in
     (s .pre .0, s .pre .1 .line (k .match .keys2))
 
-draw-circle-requires : tie.Need-draw-circle-requires
-draw-circle-requires c κs =
-    let k = c .before .before .before in
+draw-disc-requires : tie.Need-draw-circle-requires
+draw-disc-requires c κs =
+    let k = c .before .before in
     let s = S (k .before) in
-    (s .pre .0, s .pre .1 .circle (k .match .keys4))
+    (s .pre .0, s .pre .1 .disc (k .match .keys4))
+
+draw-outline-requires : tie.Need-draw-circle-requires-2
+draw-outline-requires c κs =
+    let k = c .before .before in
+    let s = S (k .before) in
+    (s .pre .0, s .pre .1 .outline (k .match .keys5))
 
 returns : tie.Need-returns
 returns c =
@@ -50,11 +56,17 @@ returns-3 c =
 returns-4 : tie.Need-returns-4
 returns-4 c =
     let d = c .before .before in
-    let k = d .before .before .before .before in
-    d .draw-circle .ensures ∙ as-held (k .before) _ (holds-circle (S (k .before) .args .brush .now) (k .match .keys4))
+    let k = d .before .before .before in
+    d .draw-circle .ensures ∙ as-held (k .before) _ (holds-disc (S (k .before) .args .brush .now) (k .match .keys4))
 
 returns-5 : tie.Need-returns-5
 returns-5 c =
+    let d = c .before .before in
+    let k = d .before .before .before in
+    d .draw-circle2 .ensures ∙ as-held (k .before) _ (holds-outline (S (k .before) .args .brush .now) (k .match .keys5))
+
+returns-6 : tie.Need-returns-6
+returns-6 c =
     let g = S (c .before) .args in
     sym (nothing (g .f) (colourOf (g .brush .now)) (g .screen .now)) ∙ as-held (c .before) _ (holds-none (g .brush .now) (c .match .rest))
 
@@ -66,6 +78,7 @@ paint-spec =
     (λ c. search needs) (λ c. search needs)
     draw-line-requires
     (λ c κs. search needs)
-    (λ c. search needs) (λ c. search needs)
-    draw-circle-requires
-    (λ c. search needs) returns (λ c. search needs) returns-2 (λ c. search needs) returns-3 (λ c. search needs) returns-4 returns-5)
+    (λ c. search needs) draw-disc-requires
+    (λ c. search needs) draw-outline-requires
+    (λ c. search needs) returns (λ c. search needs) returns-2 (λ c. search needs) returns-3 (λ c. search needs) returns-4
+    (λ c. search needs) returns-5 returns-6)
