@@ -1,6 +1,7 @@
 // What is to be painted, held in six numbers, so that who says what is painted needs no screen; and the painting of it.
 use circles::circle::Circle;
-use circles::circle::draw_circle;
+use circles::circle::draw_disc;
+use circles::circle::draw_outline;
 use raster::biased::Spot;
 use raster::biased::spot_of;
 use raster::dots::Dot;
@@ -91,8 +92,8 @@ pub fn paint(screen: &mut [u8], f: Frame, brush: &Brush)
             draw_line(screen, f, p, q, c)
         }
         3 => fill(screen, f, c),
-        4 => draw_circle(screen, f, p, brush[4], true, c),
-        5 => draw_circle(screen, f, p, brush[4], false, c),
+        4 => draw_disc(screen, f, p, brush[4], c),
+        5 => draw_outline(screen, f, p, brush[4], c),
         _ => {}
     }
 }

@@ -1,15 +1,21 @@
 -- A circle by distances from its centre, for every point: of two neighbours in a row or in a column the further one tells.
 use mathlib.Core.Path.{_≡_, refl, ap, ap₂, _∙_}
 use mathlib.Core.Bool.{Bool, true, false, not, _&&_, _||_}
+use mathlib.Core.List.{List}
 use Prim.Native.Nat.{ℕ, zero, suc, _+_, _*_, _≤_}
 use native.Mathlib.Omega.{arith}
 use lib.IntN.{ℤ, pos, negsuc, natAbs, sucℤ, predℤ, negℤ, _+ℤ_, _-ℤ_, +ℤ-one, -ℤ-one, predℤ-+ℤ, sucℤ-+ℤ}
 use lib.Signed.{leZ}
 use lib.Dec.{T, leb, leb→le, le→leb}
-use Rattle.raster.specs.Line.{gap}
 use Rattle.raster.specs.declared.biased.Spot.{Spot}
-use Rattle.raster.specs.Biased.{bias, gapB}
+use Rattle.raster.specs.declared.frame.Frame.{Frame}
+use Rattle.raster.specs.declared.rect.Rect.{Rect}
+use Rattle.raster.specs.Frame.{Fitting}
+use Rattle.raster.specs.Paint.{paint}
+use Rattle.raster.specs.Line.{gap}
+use Rattle.raster.specs.Rects.{pixels, inRect, rectOf}
 use Rattle.raster.proofs.Coordinates.{gap-pos}
+use Rattle.raster.proofs.Drawings.{painted}
 use Rattle.circles.specs.declared.circle.Circle.{Circle}
 use Rattle.circles.specs.Circle.{disc, outline, circle}
 use Rattle.circles.specs.Reaches.{circleOf, reach, circleAt, circleB}
@@ -83,3 +89,10 @@ circle-at false k x y = outline-at k x y
 
 pub circle-is : (filled : Bool) (p : Spot) (q i j : ℕ) → circle filled (circleOf p q) (pos i) (pos j) ≡ circleB filled p q i j
 circle-is filled p q i j = circle-at filled (circleOf p q) (pos i) (pos j) ∙ ap₂ (λ (a b : ℕ). circleAt filled q a b) (gap-pos (p .x) i) (gap-pos (p .y) j)
+
+-- what is painted within the drawable rectangle r is what is to be painted
+pub circle-painted : (filled : Bool) (f : Frame) (s : List ℕ) → Fitting f s → (r : Rect) → r ≡ rectOf f → (p : Spot) (q c : ℕ)
+    → pixels (f .bounds .width) (λ i j. inRect r i j && circleB filled p q i j) c s ≡ paint f (circle filled (circleOf p q)) c s
+circle-painted filled f s h r e p q c =
+    ap (λ (r : Rect). pixels (f .bounds .width) (λ i j. inRect r i j && circleB filled p q i j) c s) e
+    ∙ painted f s h (circle filled (circleOf p q)) (circleB filled p q) c (circle-is filled p q)

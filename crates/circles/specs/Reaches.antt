@@ -36,6 +36,10 @@ pub record Reaching (q b e : ℕ) : Type 0 where
   pub columns : (a : ℕ) → reach q a b ≡ ltb a e
   pub small : e ≤ 32768
 
+-- the rectangle between two corners
+abbrev pub cornered : Spot → Spot → Rect
+cornered p q = record { l = p .x; t = p .y; r = q .x; b = q .y }
+
 -- the distance from row y of the row of r that is farthest from it, where that is q at most, and of the nearest
 abbrev pub farthest : Rect → ℕ → ℕ → ℕ
 farthest r y q = min q (max (y - r .t) (r .b - y))

@@ -19,8 +19,8 @@ ghost use Rattle.raster.specs.Frame.{Fitting};
 ghost use Rattle.raster.specs.Paint.{paint};
 ghost use Rattle.raster.specs.Biased.{bias, gapB, NearB};
 ghost use Rattle.raster.specs.Rects.{pixels, inRect, Room};
-ghost use Rattle.circles.specs.Circle as Circles;
-ghost use Rattle.circles.specs.Reaches.{circleOf, circleB, Reaching, farthest, nearest};
+ghost use Rattle.circles.specs.Circle.{disc, outline};
+ghost use Rattle.circles.specs.Reaches.{circleOf, circleB, Reaching, farthest, nearest, cornered};
 
 pub struct Circle {
     pub centre: Dot,
@@ -70,8 +70,8 @@ fn rows_at(
     }
 }
 
-// The circle's dots in r.
-fn circle_in(screen: &mut [u8], w: u32, r: Rect, p: Spot, q: u32, filled: bool, c: u8)
+// The circle's dots in the rows of r.
+fn circle_rows(screen: &mut [u8], w: u32, r: Rect, p: Spot, q: u32, filled: bool, c: u8)
     requires { ⌜ Room w r (now screen) ⌝ }
     requires { ⌜ (r .t ≤ r .b) × (p .x < 131072) × (p .y < 131072) × (q < 32768) ⌝ }
     ensures { λ _. ⌜ now (screen .exit) ≡ pixels w (λ i j. inRect r i j && circleB filled p q i j) c (now (screen .entry)) ⌝ }
@@ -87,16 +87,47 @@ fn circle_in(screen: &mut [u8], w: u32, r: Rect, p: Spot, q: u32, filled: bool, 
     }
 }
 
-// The drawable dots of the circle around p with the radius q: filled, or the outline alone.
-pub fn draw_circle(screen: &mut [u8], f: Frame, p: Spot, q: u32, filled: bool, c: u8)
-    requires { ⌜ Fitting f (now screen) ⌝ }
+// The circle's dots between two corners, none where there is no column or no row.
+fn circle_in(screen: &mut [u8], w: u32, low: Spot, high: Spot, p: Spot, q: u32, filled: bool, c: u8)
+    requires { ⌜ Room w (cornered low high) (now screen) ⌝ }
     requires { ⌜ NearB p × (q < 32768) ⌝ }
-    ensures { λ _. ⌜ now (screen .exit) ≡ paint f (Circles.circle filled (circleOf p q)) c (now (screen .entry)) ⌝ }
+    ensures { λ _.
+        ⌜ now (screen .exit)
+        ≡ pixels w (λ i j. inRect (cornered low high) i j && circleB filled p q i j) c (now (screen .entry)) ⌝ }
 {
-    let r = rect_of(f);
-    if r.l <= r.r {
-        if r.t <= r.b {
-            circle_in(screen, f.bounds.width, r, p, q, filled, c);
+    if low.x <= high.x {
+        if low.y <= high.y {
+            let r = Rect {
+                l: low.x,
+                t: low.y,
+                r: high.x,
+                b: high.y,
+            };
+            circle_rows(screen, w, r, p, q, filled, c);
         }
     }
+}
+
+// The drawable dots of the filled circle around p with the radius q.
+pub fn draw_disc(screen: &mut [u8], f: Frame, p: Spot, q: u32, c: u8)
+    requires { ⌜ Fitting f (now screen) ⌝ }
+    requires { ⌜ NearB p × (q < 32768) ⌝ }
+    ensures { λ _. ⌜ now (screen .exit) ≡ paint f (disc (circleOf p q)) c (now (screen .entry)) ⌝ }
+{
+    let r = rect_of(f);
+    let low = Spot { x: r.l, y: r.t };
+    let high = Spot { x: r.r, y: r.b };
+    circle_in(screen, f.bounds.width, low, high, p, q, true, c);
+}
+
+// The drawable dots of its outline.
+pub fn draw_outline(screen: &mut [u8], f: Frame, p: Spot, q: u32, c: u8)
+    requires { ⌜ Fitting f (now screen) ⌝ }
+    requires { ⌜ NearB p × (q < 32768) ⌝ }
+    ensures { λ _. ⌜ now (screen .exit) ≡ paint f (outline (circleOf p q)) c (now (screen .entry)) ⌝ }
+{
+    let r = rect_of(f);
+    let low = Spot { x: r.l, y: r.t };
+    let high = Spot { x: r.r, y: r.b };
+    circle_in(screen, f.bounds.width, low, high, p, q, false, c);
 }

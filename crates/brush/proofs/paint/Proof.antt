@@ -23,13 +23,13 @@ draw-line-requires c κs =
     let s = S (k .before) in
     (s .pre .0, s .pre .1 .line (k .match .keys2))
 
-draw-disc-requires : tie.Need-draw-circle-requires
+draw-disc-requires : tie.Need-draw-disc-requires
 draw-disc-requires c κs =
     let k = c .before .before in
     let s = S (k .before) in
     (s .pre .0, s .pre .1 .disc (k .match .keys4))
 
-draw-outline-requires : tie.Need-draw-circle-requires-2
+draw-outline-requires : tie.Need-draw-outline-requires
 draw-outline-requires c κs =
     let k = c .before .before in
     let s = S (k .before) in
@@ -57,13 +57,13 @@ returns-4 : tie.Need-returns-4
 returns-4 c =
     let d = c .before .before in
     let k = d .before .before .before in
-    d .draw-circle .ensures ∙ as-held (k .before) _ (holds-disc (S (k .before) .args .brush .now) (k .match .keys4))
+    d .draw-disc .ensures ∙ as-held (k .before) _ (holds-disc (S (k .before) .args .brush .now) (k .match .keys4))
 
 returns-5 : tie.Need-returns-5
 returns-5 c =
     let d = c .before .before in
     let k = d .before .before .before in
-    d .draw-circle2 .ensures ∙ as-held (k .before) _ (holds-outline (S (k .before) .args .brush .now) (k .match .keys5))
+    d .draw-outline .ensures ∙ as-held (k .before) _ (holds-outline (S (k .before) .args .brush .now) (k .match .keys5))
 
 returns-6 : tie.Need-returns-6
 returns-6 c =
