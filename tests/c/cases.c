@@ -1,7 +1,7 @@
 /*
- * The fourteen cases of docs/RULES.md with their variants, request T-02's, a line that is mostly outside, places of refusals, the
- * numbers 10 to 14, and what the header says of NULL and of its limits, through the C face of the box. Each answer is checked
- * whole: number, place, steps, every field of the environment, every byte.
+ * The fourteen cases of docs/RULES.md with their variants, requests T-01's and T-02's, a line that is mostly outside, places of
+ * refusals, the numbers 10 to 14, and what the header says of NULL and of its limits, through the C face of the box. Each answer
+ * is checked whole: number, place, steps, every field of the environment, every byte.
  */
 
 #include "libc.h"
@@ -71,6 +71,14 @@ static const struct test tests[] = {
       { 0x0074, 0x0000, 0x0000, 0x0000, 0x0004, 0x0002, 0x001F, 0x0000, 0x0000, 0x0074, 0x0000, 0x0004, 0x0002, 0x0000,
         0x0000, 0x0001 },
       100, WHOLE, 0, 4, { { COLOUR, 0, 0 }, { COUNTER, 0, 16 }, { STATE, 0, 1 } }, BLANK },
+    { "T-01, a filled circle in a pane", 6, { 0x0014, 0x0000, 0x0002, 0x0001, 0x0002, 0x0001 }, 100, { 2, 0, 4, 2 }, 0, 2,
+      { { COUNTER, 0, 6 }, { STATE, 0, 1 } }, "..##." "..###" "..##." },
+    { "T-01, an outline", 6, { 0x0012, 0x0000, 0x0002, 0x0001, 0x0002, 0x0001 }, 100, WHOLE, 0, 2,
+      { { COUNTER, 0, 6 }, { STATE, 0, 1 } }, ".#.#." "#...#" ".#.#." },
+    { "T-01, type 1 and radius 32,768", 9,
+      { 0x0065, 0x0001, 0x0000, 0x0066, 0x8000, 0x0000, 0x0003, 0x0015, 0x0000 }, 100, WHOLE, 24, 2,
+      { { VARIABLE, 0, 1 }, { VARIABLE, 3, 32768 }, { COUNTER, 0, 7 }, { PLACE, 0, 7 }, { STATE, 0, 24 } }, BLANK },
+    { "T-01, radius -1", 5, { 0x0014, 0x0000, 0x0000, 0x0000, 0xFFFF }, 100, WHOLE, 25, 0, { { STATE, 0, 25 } }, BLANK },
     { "T-02, a line that falls", 7, { 0x0074, 0x0000, 0x0000, 0x0002, 0x0004, 0x0000, 0x0001 }, 100, WHOLE, 0, 2,
       { { COUNTER, 0, 7 }, { STATE, 0, 1 } }, "....#" "..##." "##..." },
     { "all coordinates through two columns", 7, { 0x0074, 0x0000, 0x7FFF, 0x8003, 0x8003, 0x7FFF, 0x0001 }, 100,
