@@ -1,17 +1,17 @@
 -- The two rows at one distance, and the columns beside one: a part or two of each.
-use mathlib.Core.Path.{_≡_, sym, ap, ap₂, _∙_, subst}
-use mathlib.Core.Bool.{Bool, true, false, _&&_, _||_}
+use mathlib.Core.Path.{_≡_, sym, _∙_}
+use mathlib.Core.Bool.{Bool, _&&_, _||_}
 use mathlib.Core.List.{List}
-use Prim.Native.Nat.{ℕ, _+_, _-_, _*_, _/_, _%_, _<_, _≤_, min, max}
+use Prim.Native.Nat.{ℕ, _+_, _-_, _/_, _%_, _<_, _≤_, min, max}
 use native.Mathlib.Omega.{arith}
 use native.Mathlib.Decide.{decLt}
-use native.Mathlib.Nat.{mul-le-mul-right, le-refl}
+use native.Mathlib.Nat.{mul-le-mul-right}
 use lib.Dec.{T, leb, eqb, leb→le, le→leb, eqb→eq}
 use lib.ListN.{set}
 use Rattle.raster.specs.declared.biased.Spot.{Spot}
 use Rattle.raster.specs.declared.rect.Rect.{Rect}
 use Rattle.raster.specs.Biased.{bias, dotB, gapB}
-use Rattle.raster.specs.Rects.{pixels, byteB, insideB, inRect, Room}
+use Rattle.raster.specs.Rects.{pixels, byteB, inRect, Room}
 use Rattle.raster.specs.Parts.{rowPart}
 use Rattle.raster.proofs.Tests.{same, both, left, right, yes-or, or-yes, or-elim, eq→T, and-or, and-same}
 use Rattle.raster.proofs.Recolour.{none, agree, twice}

@@ -34,6 +34,7 @@ fn farthest(r: Rect, y: u32, q: u32) -> u32
     smaller(q, larger(less(y, r.t), less(r.b, y)))
 }
 
+// And of the nearest one.
 fn nearest(r: Rect, y: u32) -> u32
     ensures { λ d. ⌜ d ≡ nearest r y ⌝ }
 {
@@ -87,7 +88,8 @@ fn circle_rows(screen: &mut [u8], w: u32, r: Rect, p: Spot, q: u32, filled: bool
     }
 }
 
-// The circle's dots between two corners, none where there is no column or no row.
+// The circle's dots between two corners, none where there is no column or no row. Two callers keep it a call of its own, beside the
+// loop of opcodes, and corners go in registers, as a frame would not.
 fn circle_in(screen: &mut [u8], w: u32, low: Spot, high: Spot, p: Spot, q: u32, filled: bool, c: u8)
     requires { ⌜ Room w (cornered low high) (now screen) ⌝ }
     requires { ⌜ NearB p × (q < 32768) ⌝ }

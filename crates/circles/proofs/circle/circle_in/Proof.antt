@@ -1,7 +1,7 @@
 -- `circle_in`: the corners' rectangle, and nothing where it is empty.
 use mathlib.Core.Path.{_≡_, subst}
 use mathlib.Core.Bool.{_&&_}
-use Prim.Native.Nat.{ℕ, _+_, _<_, _≤_}
+use Prim.Native.Nat.{_+_, _<_, _≤_}
 use native.Mathlib.Omega.{arith}
 use borrow.Author.Needs.{needs}
 use Rattle.raster.specs.declared.biased.Spot.{Spot}

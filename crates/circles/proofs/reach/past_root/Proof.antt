@@ -1,7 +1,6 @@
 -- `past_root`: every number before e has a square that is not above n.
 use Prim.Native.Nat.{ℕ, _+_, _-_, _*_, _<_, _≤_}
 use native.Mathlib.Omega.{arith}
-use borrow.Author.Needs.{needs}
 use Rattle.circles.proofs.Squares.{square-le, lt-square}
 use Rattle.circles.proofs.Reaches.{past-next}
 use Rattle.circles.proofs.reach.past_root.Statement.{statement}

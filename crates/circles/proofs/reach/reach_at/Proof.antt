@@ -1,5 +1,5 @@
 -- `reach_at`: nowhere beyond the radius, else by the root, looked for from 0.
-use Prim.Native.Nat.{ℕ, _+_, _-_, _*_, _<_, _≤_}
+use Prim.Native.Nat.{_-_, _*_, _<_, _≤_}
 use native.Mathlib.Omega.{arith}
 use Rattle.circles.proofs.Squares.{square-le}
 use Rattle.circles.proofs.Reaches.{past-small, reaches, nowhere}

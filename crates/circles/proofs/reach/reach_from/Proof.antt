@@ -1,5 +1,5 @@
 -- `reach_from`: the rows one further out reach no farther, so that the root is looked for from there.
-use Prim.Native.Nat.{ℕ, _+_, _-_, _*_, _<_, _≤_}
+use Prim.Native.Nat.{_-_, _*_, _<_, _≤_}
 use native.Mathlib.Omega.{arith}
 use Rattle.circles.proofs.Squares.{square-le}
 use Rattle.circles.proofs.Reaches.{past-small, past-one, reaches, reach-further}
