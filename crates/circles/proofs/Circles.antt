@@ -6,7 +6,7 @@ use Prim.Native.Nat.{ℕ, _+_, _*_, _≤_}
 use native.Mathlib.Omega.{arith}
 use borrow.Author.Tests.{lt-leb}
 use lib.IntN.{ℤ, pos, negsuc, natAbs, _+ℤ_, _-ℤ_, +ℤ-idl, +ℤ-invr, -ℤ-+ℤ-cancel}
-use lib.Dec.{T, leb, leb→le, eqb→eq}
+use lib.Dec.{T, leb, leb→le}
 use lib.ListN.{replicate}
 use Rattle.raster.specs.declared.dots.Dot.{Dot}
 use Rattle.raster.specs.declared.frame.Frame.{Frame}
@@ -15,7 +15,7 @@ use Rattle.raster.specs.Frame.{drawable}
 use Rattle.raster.specs.Paint.{recolourFrom, paint}
 use Rattle.raster.specs.Line.{gap}
 use Rattle.raster.proofs.Tests.{same, both, left, right, and-true}
-use Rattle.raster.proofs.Stores.{eqZ-refl}
+use Rattle.raster.proofs.Stores.{eqZ→eq, eqZ-refl}
 use Rattle.circles.specs.declared.circle.Circle.{Circle}
 use Rattle.circles.specs.Circle.{disc, outline}
 use Rattle.circles.specs.Reaches.{reach}
@@ -23,12 +23,6 @@ use Rattle.circles.proofs.Squares.{le-square}
 use Rattle.circles.proofs.Distances.{disc-at, outline-at}
 
 -- ---- radius 0
-eqZ-eq : (a b : ℤ) → T (eqZ a b) → a ≡ b
-eqZ-eq (pos a) (pos b) t = ap pos (eqb→eq a b t)
-eqZ-eq (pos a) (negsuc b) t = absurd t
-eqZ-eq (negsuc a) (pos b) t = absurd t
-eqZ-eq (negsuc a) (negsuc b) t = ap negsuc (eqb→eq a b t)
-
 zero-size : (z : ℤ) → natAbs z ≡ 0 → z ≡ pos 0
 zero-size (pos n) e = ap pos e
 zero-size (negsuc n) e = absurd (omega arith)
@@ -50,8 +44,8 @@ reach-zero c x y =
     both (eqZ (c .x) x) (eqZ (c .y) y) (subst (λ (z : ℤ). T (eqZ (c .x) z)) (no-gap (c .x) x (h .0)) (eqZ-refl (c .x)))
     (subst (λ (z : ℤ). T (eqZ (c .y) z)) (no-gap (c .y) y (h .1)) (eqZ-refl (c .y))))
     (λ t.
-    let a = gap-same (c .x) x (eqZ-eq (c .x) x (left (eqZ (c .x) x) (eqZ (c .y) y) t)) in
-    let b = gap-same (c .y) y (eqZ-eq (c .y) y (right (eqZ (c .x) x) (eqZ (c .y) y) t)) in
+    let a = gap-same (c .x) x (eqZ→eq (c .x) x (left (eqZ (c .x) x) (eqZ (c .y) y) t)) in
+    let b = gap-same (c .y) y (eqZ→eq (c .y) y (right (eqZ (c .x) x) (eqZ (c .y) y) t)) in
     subst (λ (n : ℕ). T (leb n (0 * 0))) (sym (ap₂ (λ (u v : ℕ). u * u + v * v) a b)) tt)
 
 pub one-dot : (c : Dot) (x y : ℤ) → disc (record { centre = c; radius = pos 0 }) x y ≡ dot c x y

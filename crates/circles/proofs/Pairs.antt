@@ -5,7 +5,6 @@ use mathlib.Core.List.{List}
 use Prim.Native.Nat.{ℕ, _+_, _-_, _/_, _%_, _<_, _≤_, min, max}
 use native.Mathlib.Omega.{arith}
 use native.Mathlib.Decide.{decLt}
-use native.Mathlib.Nat.{mul-le-mul-right}
 use lib.Dec.{T, leb, eqb, leb→le, le→leb, eqb→eq}
 use lib.ListN.{set}
 use Rattle.raster.specs.declared.biased.Spot.{Spot}
@@ -49,20 +48,6 @@ module _ (w : ℕ) (r : Rect) (c : ℕ) (s : List ℕ) where
 module _ (w : ℕ) (r : Rect) (y x0 x1 : ℕ) (s : List ℕ) (h : Room w r s) (lo : r .l ≤ x0) (hi : x1 ≤ r .r) where
   -- of a row of r
   module _ (ht : r .t ≤ y) (hb : y ≤ r .b) where
-    pub part-room : Room w (rowPart y x0 x1) s
-    part-room =
-        record {
-          narrow = h .narrow;
-          from-left = omega (arith, h .from-left);
-          from-top = omega (arith, h .from-top);
-          to-right = omega (arith, h .to-right);
-          to-bottom = omega (arith, h .to-bottom);
-          down = omega (arith, h .down, mul-le-mul-right w (lower (r .b) y hb));
-        }
-      where
-        lower : (b y : ℕ) → y ≤ b → y + 1 - bias ≤ b + 1 - bias
-        lower b y l = omega arith
-
     pub part-within : (c : ℕ) → pixels w (inRect (rowPart y x0 x1)) c s ≡ pixels w (λ i j. inRect r i j && inRect (rowPart y x0 x1) i j) c s
     part-within c =
         agree (λ k. inRect (rowPart y x0 x1) (k % w) (k / w)) (λ k. inRect r (k % w) (k / w) && inRect (rowPart y x0 x1) (k % w) (k / w)) c s

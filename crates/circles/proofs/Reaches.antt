@@ -24,6 +24,13 @@ module _ (n e : ℕ) (p : Past n e) where
 pub past-next : (n e : ℕ) → e * e ≤ n → (e + 1 - 1) * (e + 1 - 1) ≤ n
 past-next n e h = let same : e + 1 - 1 ≡ e = omega arith in rw same h
 
+-- ---- the square of a radius, and what a row leaves of it
+pub radius-square : (q : ℕ) → q < 32768 → q * q ≤ 32767 * 32767
+radius-square q h = square-le q 32767 (omega arith)
+
+pub left-over : (q b : ℕ) → q < 32768 → q * q - b * b < 32768 * 32768
+left-over q b h = omega (arith, radius-square q h)
+
 -- ---- a row b from the centre
 module _ (q b : ℕ) where
   -- it has points within the radius

@@ -83,14 +83,14 @@ module _ (w y x0 x1 : ℕ) (s : List ℕ) (h : Room w (rowPart y x0 x1) s) (l : 
           let b : (y - bias) * w + k % w ≡ k = subst (λ (m : ℕ). m * w + k % w ≡ k) j (byte w k) in
           is-between from past k (omega (arith, h .from-left)) (omega (arith, h .from-left))
 
--- a row of r is a part that has room
-pub row-room : (w : ℕ) (r : Rect) (y : ℕ) (s : List ℕ) → Room w r s → r .t ≤ y → y ≤ r .b → Room w (rowPart y (r .l) (r .r)) s
-row-room w r y s h k l =
+-- a part of a row of r has room
+pub part-room : (w : ℕ) (r : Rect) (y x0 x1 : ℕ) (s : List ℕ) → Room w r s → r .l ≤ x0 → x1 ≤ r .r → r .t ≤ y → y ≤ r .b → Room w (rowPart y x0 x1) s
+part-room w r y x0 x1 s h lo hi k l =
     record {
       narrow = h .narrow;
-      from-left = h .from-left;
+      from-left = omega (arith, h .from-left);
       from-top = omega (arith, h .from-top);
-      to-right = h .to-right;
+      to-right = omega (arith, h .to-right);
       to-bottom = omega (arith, h .to-bottom);
       down = omega (arith, h .down, mul-le-mul-right w (lower (r .b) y l));
     }

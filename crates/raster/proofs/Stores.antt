@@ -20,9 +20,11 @@ use Rattle.raster.proofs.Recolour.{one, none}
 use Rattle.raster.proofs.Pixels.{column, row, byte}
 use Rattle.raster.proofs.Paintings.{drawable-pixel, union, nothing}
 
-eqZ→eq : (x : ℤ) (i : ℕ) → T (eqZ x (pos i)) → x ≡ pos i
-eqZ→eq (pos n) i t = ap pos (eqb→eq n i t)
-eqZ→eq (negsuc n) i t = absurd t
+pub eqZ→eq : (a b : ℤ) → T (eqZ a b) → a ≡ b
+eqZ→eq (pos a) (pos b) t = ap pos (eqb→eq a b t)
+eqZ→eq (pos a) (negsuc b) t = absurd t
+eqZ→eq (negsuc a) (pos b) t = absurd t
+eqZ→eq (negsuc a) (negsuc b) t = ap negsuc (eqb→eq a b t)
 
 pub eqZ-refl : (z : ℤ) → T (eqZ z z)
 eqZ-refl (pos n) = eqb-refl n
@@ -52,8 +54,8 @@ module _ (f : Frame) (c : ℕ) (d : Dot) (s : List ℕ) where
   at-byte : (k : ℕ) → T (hit f (dot d) k) → (d .x ≡ pos (k % w)) × (d .y ≡ pos (k / w))
   at-byte k u =
       let q = right (drawable f (pos (k % w)) (pos (k / w))) (dot d (pos (k % w)) (pos (k / w))) u in (
-        eqZ→eq (d .x) (k % w) (left (eqZ (d .x) (pos (k % w))) (eqZ (d .y) (pos (k / w))) q),
-        eqZ→eq (d .y) (k / w) (right (eqZ (d .x) (pos (k % w))) (eqZ (d .y) (pos (k / w))) q),
+        eqZ→eq (d .x) (pos (k % w)) (left (eqZ (d .x) (pos (k % w))) (eqZ (d .y) (pos (k / w))) q),
+        eqZ→eq (d .y) (pos (k / w)) (right (eqZ (d .x) (pos (k % w))) (eqZ (d .y) (pos (k / w))) q),
       )
 
   dot-in : T (drawable f (d .x) (d .y)) → set s (natAbs (d .y) * w + natAbs (d .x)) c ≡ recolour (hit f (dot d)) c s

@@ -7,7 +7,8 @@ use borrow.Author.Needs.{needs}
 use lib.Dec.{T, leb, leb→le, le→leb}
 use Rattle.raster.proofs.Tests.{both, left, right}
 use Rattle.raster.proofs.Pixels.{is-inside, seen}
-use Rattle.circles.proofs.Pairs.{part-room, part-within, dot-within, no-part}
+use Rattle.raster.proofs.Parts.{part-room}
+use Rattle.circles.proofs.Pairs.{part-within, dot-within, no-part}
 use Rattle.circles.proofs.pair.row_within.Statement.{statement}
 use Rattle.circles.proofs.pair.row_within.Tie as tie
 

@@ -9,7 +9,7 @@ use lib.ListN.{length}
 use Rattle.raster.specs.Rects.{pixels, inRect}
 use Rattle.raster.specs.Parts.{rowPart}
 use Rattle.raster.proofs.Rectangles.{same-room}
-use Rattle.raster.proofs.Parts.{row-room}
+use Rattle.raster.proofs.Parts.{part-room}
 use Rattle.raster.proofs.Rows.{above, no-row, row-more, every-row, whole-row, whole}
 use Rattle.raster.proofs.fill.fill_rows.Statement.{statement}
 use Rattle.raster.proofs.fill.fill_rows.Tie as tie
@@ -33,8 +33,8 @@ row-part-requires c κs =
     let i = c .before in
     let s = S i in
     let l = i .before .loop in
-    row-room (s .args .w) (s .args .r) (l .y) (l .screen)
-    (same-room (s .args .w) (s .args .r) (s .args .screen .now) (l .screen) (l .inv .1) (s .pre)) (l .inv .2) (i .loop-test .taken)
+    part-room (s .args .w) (s .args .r) (l .y) (s .args .r .l) (s .args .r .r) (l .screen)
+    (same-room (s .args .w) (s .args .r) (s .args .screen .now) (l .screen) (l .inv .1) (s .pre)) (le-refl (s .args .r .l)) (le-refl (s .args .r .r)) (l .inv .2) (i .loop-test .taken)
 
 add-y : tie.Need-add-y Inv-loop μ-loop
 add-y c = let i = c .before .before .before .before in omega (arith, i .loop-test .taken, S i .pre .to-bottom)
