@@ -3,7 +3,7 @@ use mathlib.Core.Path.{_≡_, sym, _∙_, subst}
 use Prim.Native.Nat.{ℕ, zero, suc, _+_, _-_, _*_, _<_, _≤_}
 use native.Mathlib.Omega.{arith}
 use borrow.Author.Tests.{lt-leb}
-use lib.Dec.{T, leb, ltb, leb→le, le→leb, ltb→lt, lt→ltb}
+use lib.Dec.{T, ltb, leb→le, le→leb, ltb→lt, lt→ltb}
 use Rattle.raster.proofs.Tests.{same, T-false}
 use Rattle.circles.specs.Reaches.{reach, Past, Reaching}
 use Rattle.circles.proofs.Squares.{square-le, square-lt, lt-square}
