@@ -10,10 +10,9 @@ use lib.Dec.{T, leb, leb→le}
 use lib.ListN.{replicate}
 use Rattle.raster.specs.declared.dots.Dot.{Dot}
 use Rattle.raster.specs.declared.frame.Frame.{Frame}
-use Rattle.raster.specs.Shapes.{eqZ, dot}
+use Rattle.raster.specs.Shapes.{eqZ, gap, dot}
 use Rattle.raster.specs.Frame.{drawable}
 use Rattle.raster.specs.Paint.{recolourFrom, paint}
-use Rattle.raster.specs.Line.{gap}
 use Rattle.raster.proofs.Tests.{same, both, left, right, and-true}
 use Rattle.raster.proofs.Stores.{eqZ→eq, eqZ-refl}
 use Rattle.circles.specs.declared.circle.Circle.{Circle}

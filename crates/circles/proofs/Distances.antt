@@ -10,9 +10,9 @@ use lib.Dec.{T, leb, leb→le, le→leb}
 use Rattle.raster.specs.declared.biased.Spot.{Spot}
 use Rattle.raster.specs.declared.frame.Frame.{Frame}
 use Rattle.raster.specs.declared.rect.Rect.{Rect}
+use Rattle.raster.specs.Shapes.{gap}
 use Rattle.raster.specs.Frame.{Fitting}
 use Rattle.raster.specs.Paint.{paint}
-use Rattle.raster.specs.Line.{gap}
 use Rattle.raster.specs.Rects.{pixels, inRect, rectOf}
 use Rattle.raster.proofs.Coordinates.{gap-pos}
 use Rattle.raster.proofs.Drawings.{painted}

@@ -13,9 +13,8 @@ use mir.Facts.{toZ-ofZ}
 use borrow.Author.Tests.{lt-ltb, le-ltb, le-leb, lt-leb, ne-eqb}
 use Rattle.raster.specs.declared.dots.Dot.{Dot}
 use Rattle.raster.specs.declared.biased.Spot.{Spot}
-use Rattle.raster.specs.Shapes.{eqZ}
+use Rattle.raster.specs.Shapes.{eqZ, gap}
 use Rattle.raster.specs.Frame.{Coord}
-use Rattle.raster.specs.Line.{gap}
 use Rattle.raster.specs.Biased.{bias, biased, spotOf, dotOf, gapB}
 use Rattle.raster.proofs.Tests.{same, eq→T}
 

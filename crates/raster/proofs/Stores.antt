@@ -1,4 +1,4 @@
--- A painting is stores one after the other: a dot is one store, and a line its dots 0, 1, .., each stored or skipped.
+-- A painting is stores one after the other: a dot is one store, and numbered dots are 0, 1, .., each stored or skipped.
 use mathlib.Core.Path.{_≡_, refl, sym, ap, ap₂, _∙_, subst, subst₂}
 use mathlib.Core.Bool.{Bool, true, false, cond, _&&_}
 use mathlib.Core.List.{List}
@@ -9,11 +9,9 @@ use lib.Dec.{T, ltb→lt, eqb→eq, eqb-refl}
 use lib.ListN.{set}
 use Rattle.raster.specs.declared.dots.Dot.{Dot}
 use Rattle.raster.specs.declared.frame.Frame.{Frame}
-use Rattle.raster.specs.declared.line.Line.{Line}
 use Rattle.raster.specs.Shapes.{eqZ, dot, someBelow}
 use Rattle.raster.specs.Frame.{drawable}
 use Rattle.raster.specs.Paint.{recolour, hit, paint}
-use Rattle.raster.specs.Line.{long, lineDot, line}
 use Rattle.raster.specs.Stores.{store, storeFirst}
 use Rattle.raster.proofs.Tests.{left, right, both, four}
 use Rattle.raster.proofs.Recolour.{one, none}
@@ -96,7 +94,3 @@ paint-first f c D (suc k) s =
     sym (union f (λ x y. someBelow k (λ q. dot (D q) x y)) (dot (D k)) c s)
     ∙ paint-dot f c (D k) (paint f (λ x y. someBelow k (λ q. dot (D q) x y)) c s)
     ∙ ap (λ (t : List ℕ). store f c (D k) t) (paint-first f c D k s)
-
-pub paint-line : (f : Frame) (c : ℕ) (l : Line) (s : List ℕ) → paint f (line l) c s ≡ storeFirst f c (lineDot l) (suc (long l)) s
-unfolding line
-paint-line f c l s = paint-first f c (lineDot l) (suc (long l)) s

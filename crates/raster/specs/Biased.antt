@@ -4,7 +4,6 @@ use Prim.Native.Nat.{ℕ, suc, _+_, _-_}
 use lib.IntN.{ℤ, pos, negsuc, subℕ}
 use lib.Dec.{eqb}
 use Rattle.raster.specs.declared.dots.Dot.{Dot}
-use Rattle.raster.specs.declared.line.Line.{Line}
 use Rattle.raster.specs.declared.biased.Spot.{Spot}
 use Rattle.raster.specs.Frame.{Coord}
 
@@ -22,9 +21,6 @@ spotOf d = record { x = biased (d .x); y = biased (d .y) }
 -- and down again
 abbrev pub dotOf : Spot → Dot
 dotOf p = record { x = subℕ (p .x) bias; y = subℕ (p .y) bias }
-
-abbrev pub lineOf : Spot → Spot → Line
-lineOf p q = record { from = dotOf p; to = dotOf q }
 
 -- both are coordinates
 abbrev pub NearB : Spot → Type 0

@@ -3,12 +3,8 @@
 pub mod Shapes
 pub mod Frame
 pub mod Paint
-pub mod Line
 pub mod Stores
 -- What only functions inside the box promise:
 pub mod Biased
 pub mod Rects
 pub mod Parts
-pub mod Courses
-pub mod Spans
-pub mod Walks

@@ -1,7 +1,7 @@
 -- Shapes: a shape says of each point whether it is one of its dots.
 use mathlib.Core.Bool.{Bool, true, false, _&&_, _||_}
 use Prim.Native.Nat.{ℕ, zero, suc}
-use lib.IntN.{ℤ, pos, negsuc}
+use lib.IntN.{ℤ, pos, negsuc, natAbs, _-ℤ_}
 use lib.Dec.{eqb}
 use Rattle.raster.specs.declared.dots.Dot.{Dot}
 
@@ -15,6 +15,10 @@ eqZ (pos a) (pos b) = eqb a b
 eqZ (pos a) (negsuc b) = false
 eqZ (negsuc a) (pos b) = false
 eqZ (negsuc a) (negsuc b) = eqb a b
+
+-- their absolute difference
+abbrev pub gap : ℤ → ℤ → ℕ
+gap a b = natAbs (b -ℤ a)
 
 -- the one dot d
 abbrev pub dot : Dot → Shape

@@ -10,7 +10,7 @@ use Rattle.numbers.specs.Place.{wordOf, indexOf}
 use Rattle.raster.specs.Shapes.{someBelow}
 use Rattle.raster.specs.Frame.{drawable}
 use Rattle.raster.specs.Paint.{recolourFrom, paint}
-use Rattle.raster.specs.Line.{line, side}
+use Rattle.lines.specs.Line.{line, side}
 use Rattle.circles.specs.Circle.{disc, outline}
 use Rattle.player.specs.Player.{fault, verdict}
 use Rattle.player.specs.Run.{Answer, answer, runs}

@@ -9,7 +9,7 @@ use Rattle.numbers.specs.Number.{signed32, low8, sum32, difference32, product32
 use Rattle.numbers.specs.Coordinate.{inWord, isRadius}
 use Rattle.numbers.specs.Place.{wordOf, indexOf}
 use Rattle.raster.specs.Shapes.{Shape, dot, all}
-use Rattle.raster.specs.Line.{line}
+use Rattle.lines.specs.Line.{line}
 use Rattle.circles.specs.Circle.{disc, outline}
 use Rattle.rules.specs.Types.{Target, At, Refused, Dot, Window, Circle, Operands, Ended}
 use Rattle.rules.specs.Op as Op

@@ -1,0 +1,5 @@
+// Lines on a lent screen, within a frame.
+pub mod line; // a line's dots
+mod course; // a line from its start along the long axis
+mod span; // the dots of a course within a rectangle
+mod walk; // from dot to dot
