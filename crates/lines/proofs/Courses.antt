@@ -1,4 +1,4 @@
--- A line's course is its rule, biased.
+-- A line's course is its rule, biased, with any pattern.
 use mathlib.Core.Path.{_≡_, refl, ap, ap₂, _∙_}
 use mathlib.Core.Bool.{Bool, true, false, cond, _&&_}
 use Prim.Native.Nat.{ℕ, suc, _+_, _-_, _<_, _≤_, max}
@@ -15,8 +15,9 @@ use Rattle.raster.specs.Biased.{bias, biased, spotOf, dotB, gapB, aside}
 use Rattle.raster.proofs.Coordinates.{biased-lt, gap-is, le-is, plus, minus, apart, sub-ge, sub-lt, sub-pos}
 use Rattle.raster.proofs.SomeBelow.{some-same}
 use Rattle.lines.specs.declared.line.Line.{Line}
-use Rattle.lines.specs.Line.{side, dotFrom, line}
-use Rattle.lines.specs.Courses.{alongB, acrossB, longB, shortB, flatB, risingB, courseFrom, courseBy, courseOf, half, offset, lineSpot, lineB, Fair}
+use Rattle.lines.specs.Line.{side, dotFrom}
+use Rattle.lines.specs.Dashes.{lit, dashed}
+use Rattle.lines.specs.Courses.{alongB, acrossB, longB, shortB, flatB, risingB, courseFrom, courseBy, courseOf, half, offset, lineSpot, dashedB, Fair}
 use Rattle.lines.proofs.Sides.{side-up, side-down, offset-le}
 
 -- ---- start and end
@@ -63,8 +64,8 @@ pub low-across : (t : Bool) (p : Spot) → Low p → acrossB t p < 131072
 low-across true p h = h .1
 low-across false p h = h .0
 
-fairly : (t : Bool) (n m : ℕ) (p q : Spot) → Low p → Low q → Ordered t n m p q → Fair (courseFrom t n m p q)
-fairly t n m p q hp hq o =
+fairly : (t r : Bool) (n m : ℕ) (p q : Spot) → Low p → Low q → Ordered t n m p q → Fair (courseFrom t r n m p q)
+fairly t r n m p q hp hq o =
     record {
       short = o .less;
       far = omega (arith, o .far, low-along t q hq);
@@ -78,7 +79,7 @@ fair d e hd he =
     let q = spotOf e in
     let t = flatB p q in
     let r = risingB t p q in
-    fairly t (longB p q) (shortB p q) (cond r p q) (cond r q p) (either r p q (low d hd) (low e he)) (either r q p (low e he) (low d hd)) (ordered p q t r refl refl)
+    fairly t r (longB p q) (shortB p q) (cond r p q) (cond r q p) (either r p q (low d hd) (low e he)) (either r q p (low e he) (low d hd)) (ordered p q t r refl refl)
 
 -- ---- a dot's coordinates, biased
 along-at : (a : ℤ) (k i : ℕ) → Coord a → eqZ (a +ℤ pos k) (pos i) ≡ eqb (biased a + k) (i + bias)
@@ -108,11 +109,11 @@ module _ (a b : ℤ) (n m k : ℕ) (ha : Coord a) (hb : Coord b) (e : m ≡ gapB
       ap (λ (z : ℤ). eqZ z (pos i)) (across-is u refl) ∙ sub-pos (aside u (biased a) (offset n m (half u n) k)) i
 
 -- dot k from p to q
-dot-at : (t : Bool) (n m k : ℕ) (p q : Dot) → Coord (p .x) × Coord (p .y) → Coord (q .x) × Coord (q .y) → Ordered t n m (spotOf p) (spotOf q) → k ≤ n
-    → (i j : ℕ) → dot (dotFrom t n p q k) (pos i) (pos j) ≡ dotB (lineSpot (courseFrom t n m (spotOf p) (spotOf q)) k) i j
-dot-at true n m k p q hp hq o l i j =
+dot-at : (t r : Bool) (n m k : ℕ) (p q : Dot) → Coord (p .x) × Coord (p .y) → Coord (q .x) × Coord (q .y) → Ordered t n m (spotOf p) (spotOf q) → k ≤ n
+    → (i j : ℕ) → dot (dotFrom t n p q k) (pos i) (pos j) ≡ dotB (lineSpot (courseFrom t r n m (spotOf p) (spotOf q)) k) i j
+dot-at true r n m k p q hp hq o l i j =
     ap₂ (λ (a b : Bool). a && b) (along-at (p .x) k i (hp .0)) (across-at (p .y) (q .y) n m k (hp .1) (hq .1) (o .wide) (o .less) l j)
-dot-at false n m k p q hp hq o l i j =
+dot-at false r n m k p q hp hq o l i j =
     ap₂ (λ (a b : Bool). a && b) (across-at (p .x) (q .x) n m k (hp .0) (hq .0) (o .wide) (o .less) l i) (along-at (p .y) k j (hp .1))
 
 -- ---- the line
@@ -128,8 +129,8 @@ module _ (l : Line) (hp : Coord (l .from .x) × Coord (l .from .y)) (hq : Coord 
   dotBy n t r k = dot (dotFrom t n (cond r (l .from) (l .to)) (cond r (l .to) (l .from)) k) (pos i) (pos j)
 
   at : (t r : Bool) → flatB p q ≡ t → risingB t p q ≡ r → (k : ℕ) → k ≤ longB p q → dotBy (longB p q) t r k ≡ dotB (lineSpot (courseBy t r p q) k) i j
-  at t true e h k b = dot-at t (longB p q) (shortB p q) k (l .from) (l .to) hp hq (ordered p q t true e h) b i j
-  at t false e h k b = dot-at t (longB p q) (shortB p q) k (l .to) (l .from) hq hp (ordered p q t false e h) b i j
+  at t true e h k b = dot-at t true (longB p q) (shortB p q) k (l .from) (l .to) hp hq (ordered p q t true e h) b i j
+  at t false e h k b = dot-at t false (longB p q) (shortB p q) k (l .to) (l .from) hq hp (ordered p q t false e h) b i j
 
   -- the ends' differences and order, biased
   gx : gap (l .from .x) (l .to .x) ≡ gapB (p .x) (q .x)
@@ -142,10 +143,19 @@ module _ (l : Line) (hp : Coord (l .from .x) × Coord (l .from .y)) (hq : Coord 
   order true = le-is (l .from .x) (l .to .x) (hp .0 .small) (hq .0 .small)
   order false = le-is (l .from .y) (l .to .y) (hp .1 .small) (hq .1 .small)
 
-  pub line-is : line l (pos i) (pos j) ≡ lineB (courseOf p q) i j
-  unfolding line lineB
-  line-is =
+  -- whether the pattern paints it
+  abbrev litBy : ℕ → ℕ → Bool → ℕ → Bool
+  litBy o n r k = lit o (cond r k (n - k))
+
+  pub dashed-is : (o : ℕ) → dashed o l (pos i) (pos j) ≡ dashedB o (courseOf p q) i j
+  unfolding dashed dashedB
+  dashed-is o =
       let t = flatB p q in
-      (λ u. someBelow (suc (max (gx u) (gy u))) (λ k. dotBy (max (gx u) (gy u)) (leb (gy u) (gx u)) (order (leb (gy u) (gx u)) u) k))
-      ∙ some-same (suc (longB p q)) (λ k. dotBy (longB p q) t (risingB t p q) k) (λ k. dotB (lineSpot (courseOf p q) k) i j)
-      (λ k h. at t (risingB t p q) refl refl k (omega arith))
+      let r = risingB t p q in
+      let n = longB p q in
+      (λ u.
+      let n = max (gx u) (gy u) in
+      let t = leb (gy u) (gx u) in
+      someBelow (suc n) (λ k. litBy o n (order t u) k && dotBy n t (order t u) k))
+      ∙ some-same (suc n) (λ k. litBy o n r k && dotBy n t r k) (λ k. litBy o n r k && dotB (lineSpot (courseOf p q) k) i j)
+      (λ k h. ap (λ (b : Bool). litBy o n r k && b) (at t r refl refl k (omega arith)))

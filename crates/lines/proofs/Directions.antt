@@ -39,7 +39,7 @@ abs-neg (pos zero) = refl
 abs-neg (pos (suc n)) = refl
 abs-neg (negsuc n) = refl
 
-gap-swap : (a b : ℤ) → gap a b ≡ gap b a
+pub gap-swap : (a b : ℤ) → gap a b ≡ gap b a
 gap-swap a b = sym (abs-neg (b -ℤ a)) ∙ ap natAbs (negℤ-+ℤ b (negℤ a) ∙ ap (λ (z : ℤ). negℤ b +ℤ z) (negℤ-negℤ a) ∙ +ℤ-comm (negℤ b) a)
 
 pub gap-none : (a : ℤ) → gap a a ≡ 0

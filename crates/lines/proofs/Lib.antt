@@ -3,6 +3,7 @@ pub mod Stores
 pub mod Floor
 pub mod Directions
 pub mod LineEnds
+pub mod Patterns
 pub mod Pictures
 -- The laws that proofs cite, here and in the crates above:
 pub mod Sides
@@ -10,3 +11,4 @@ pub mod Courses
 pub mod Spans
 pub mod Walks
 pub mod Paces
+pub mod Going

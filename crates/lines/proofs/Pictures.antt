@@ -1,4 +1,4 @@
--- The pictures of document 01's cases 9 and 10 and of request T-02's two examples, by computation.
+-- The pictures of document 01's cases 9 and 10, of request T-02's two examples and of three dashed lines, by computation.
 use mathlib.Core.Path.{_≡_, refl}
 use mathlib.Core.List.{[], _∷_}
 use Prim.Native.Nat.{ℕ}
@@ -10,6 +10,7 @@ use Rattle.raster.specs.Frame.{drawable}
 use Rattle.raster.specs.Paint.{recolourFrom, paint}
 use Rattle.lines.specs.declared.line.Line.{Line}
 use Rattle.lines.specs.Line.{side, line}
+use Rattle.lines.specs.Dashes.{bit, dashed}
 
 -- a fresh frame on a 5 x 3 screen, its pane from column l on
 abbrev fresh : ℕ → Frame
@@ -55,3 +56,26 @@ pub falling : paint (fresh 0) (line slope) 15 (replicate 15 0)
     ∷ 15 ∷ 15 ∷ 0 ∷ 0 ∷ 0 ∷ []
 unfolding paint drawable line side someBelow recolourFrom
 falling = refl
+
+-- T-03: every second dot, from the first point on
+pub dashes : paint (fresh 0) (dashed 0x55555555 slant) 15 (replicate 15 0)
+    ≡ 15 ∷ 0 ∷ 0 ∷ 0 ∷ 0
+    ∷ 0 ∷ 0 ∷ 15 ∷ 0 ∷ 0
+    ∷ 0 ∷ 0 ∷ 0 ∷ 0 ∷ 15 ∷ []
+unfolding paint drawable dashed bit side someBelow recolourFrom
+dashes = refl
+
+-- T-03: one dot in three, and the same pattern from the other end: the direction is seen
+pub ahead : paint (fresh 0) (dashed 0x49249249 slant) 15 (replicate 15 0)
+    ≡ 15 ∷ 0 ∷ 0 ∷ 0 ∷ 0
+    ∷ 0 ∷ 0 ∷ 0 ∷ 0 ∷ 0
+    ∷ 0 ∷ 0 ∷ 0 ∷ 15 ∷ 0 ∷ []
+unfolding paint drawable dashed bit side someBelow recolourFrom
+ahead = refl
+
+pub astern : paint (fresh 0) (dashed 0x49249249 back) 15 (replicate 15 0)
+    ≡ 0 ∷ 0 ∷ 0 ∷ 0 ∷ 0
+    ∷ 0 ∷ 15 ∷ 0 ∷ 0 ∷ 0
+    ∷ 0 ∷ 0 ∷ 0 ∷ 0 ∷ 15 ∷ []
+unfolding paint drawable dashed bit side someBelow recolourFrom
+astern = refl

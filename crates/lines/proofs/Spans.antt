@@ -14,7 +14,7 @@ use Rattle.raster.proofs.SomeBelow.{some-intro, some-elim}
 use Rattle.raster.proofs.Pixels.{inside-is, is-inside, pixel-inside}
 use Rattle.lines.specs.declared.course.Course.{Course}
 use Rattle.lines.specs.declared.span.Span.{Span}
-use Rattle.lines.specs.Courses.{alongB, acrossB, half, offset, offsetOf, lineSpot, lineB, Fair}
+use Rattle.lines.specs.Courses.{alongB, acrossB, half, offset, offsetOf, lineSpot, litB, dashedB, Fair}
 use Rattle.lines.specs.Spans.{spanOf, coversB, lowB, highB, alongSpan, acrossSpan, First, DotsWithin}
 use Rattle.lines.specs.Walks.{stretchB}
 use Rattle.lines.proofs.Sides.{half-le, offset-to, offset-down}
@@ -151,13 +151,17 @@ all-within r l f p q =
     subst₂ (λ (x y : ℕ). DotsWithin r l x y) (omega (arith, a)) (omega (arith, a))
     (dots-within r l f 0 (l .n + 1) (subst (λ (x : ℕ). First l x 0) (sym (b .0)) (first-none l)) (first-never l (acrossSpan r l .past) (b .1)))
 
--- ---- the line's pixels within r are those of these dots
-pub line-within : (r : Rect) (l : Course) (a b : ℕ) → DotsWithin r l a b → (i j : ℕ) → stretchB l a b i j ≡ (inRect r i j && lineB l i j)
-unfolding stretchB lineB
-line-within r l a b v i j = same (someBelow b some) (inRect r i j && someBelow (suc (l .n)) every) to back
+-- ---- the line's pixels within r are those of these dots, whatever the pattern
+pub line-within : (o : ℕ) (r : Rect) (l : Course) (a b : ℕ) → DotsWithin r l a b → (i j : ℕ) → stretchB o l a b i j ≡ (inRect r i j && dashedB o l i j)
+unfolding stretchB dashedB
+line-within o r l a b v i j = same (someBelow b some) (inRect r i j && someBelow (suc (l .n)) every) to back
   where
     every : ℕ → Bool
-    every k = dotB (lineSpot l k) i j
+    every k = litB o l k && dotB (lineSpot l k) i j
+
+    -- dot k and its pixel lie within r alike
+    pixel : (k : ℕ) → T (every k) → insideB r (lineSpot l k .x) (lineSpot l k .y) ≡ inRect r i j
+    pixel k d = pixel-inside (lineSpot l k) i j (right (litB o l k) (dotB (lineSpot l k) i j) d) r
 
     some : ℕ → Bool
     some k = leb a k && every k
@@ -168,12 +172,12 @@ line-within r l a b v i j = same (someBelow b some) (inRect r i j && someBelow (
         (λ k h u.
         let d = right (leb a k) (every k) u in
         both (inRect r i j) (someBelow (suc (l .n)) every)
-        (subst T (pixel-inside (lineSpot l k) i j d r) (v .inside k (leb→le a k (left (leb a k) (every k) u)) h))
+        (subst T (pixel k d) (v .inside k (leb→le a k (left (leb a k) (every k) u)) h))
         (some-intro (suc (l .n)) k every (omega (arith, v .limit)) d))
 
     back : T (inRect r i j && someBelow (suc (l .n)) every) → T (someBelow b some)
     back t =
         some-elim (suc (l .n)) every (right (inRect r i j) (someBelow (suc (l .n)) every) t)
         (λ k h d.
-        let p = v .only k (omega arith) (subst T (sym (pixel-inside (lineSpot l k) i j d r)) (left (inRect r i j) (someBelow (suc (l .n)) every) t)) in
+        let p = v .only k (omega arith) (subst T (sym (pixel k d)) (left (inRect r i j) (someBelow (suc (l .n)) every) t)) in
         some-intro b k some (p .1) (both (leb a k) (every k) (le→leb a k (p .0)) d))

@@ -1,5 +1,5 @@
 -- A line's course, biased: from its end with the smaller coordinate on the long axis, and each dot's place on it.
-use mathlib.Core.Bool.{Bool, false, cond}
+use mathlib.Core.Bool.{Bool, false, cond, _&&_}
 use mathlib.Core.Path.{_≡_}
 use Prim.Native.Nat.{ℕ, suc, _+_, _-_, _*_, _/_, _≤_, _<_, min, max}
 use lib.Dec.{leb}
@@ -8,6 +8,7 @@ use Rattle.raster.specs.Shapes.{someBelow}
 use Rattle.raster.specs.Biased.{dotOf, dotB, gapB, aside}
 use Rattle.lines.specs.declared.line.Line.{Line}
 use Rattle.lines.specs.declared.course.Course.{Course}
+use Rattle.lines.specs.Dashes.{lit}
 
 -- the line between two dots that are biased
 abbrev pub lineOf : Spot → Spot → Line
@@ -32,14 +33,14 @@ flatB p q = leb (gapB (p .y) (q .y)) (gapB (p .x) (q .x))
 abbrev pub risingB : Bool → Spot → Spot → Bool
 risingB t p q = leb (alongB t p) (alongB t q)
 
--- from p, whose coordinate on the long axis is not the larger, to q
-abbrev pub courseFrom : Bool → ℕ → ℕ → Spot → Spot → Course
-courseFrom t n m p q =
-    record { flat = t; along = alongB t p; across = acrossB t p; up = leb (acrossB t p) (acrossB t q); n = n; m = m }
+-- from p, whose coordinate on the long axis is not the larger, to q; r says that p was given first
+abbrev pub courseFrom : Bool → Bool → ℕ → ℕ → Spot → Spot → Course
+courseFrom t r n m p q =
+    record { flat = t; ahead = r; along = alongB t p; across = acrossB t p; up = leb (acrossB t p) (acrossB t q); n = n; m = m }
 
 -- r says that p is the start
 abbrev pub courseBy : Bool → Bool → Spot → Spot → Course
-courseBy t r p q = courseFrom t (longB p q) (shortB p q) (cond r p q) (cond r q p)
+courseBy t r p q = courseFrom t r (longB p q) (shortB p q) (cond r p q) (cond r q p)
 
 abbrev pub courseOf : Spot → Spot → Course
 courseOf p q = courseBy (flatB p q) (risingB (flatB p q) p q) p q
@@ -74,6 +75,13 @@ offsetOf l k = offset (l .n) (l .m) (half (l .up) (l .n)) k
 abbrev pub lineSpot : Course → ℕ → Spot
 lineSpot l k = spotAt l k (offsetOf l k)
 
--- all its dots
-unfoldable pub lineB : Course → ℕ → ℕ → Bool
-lineB l i j = someBelow (suc (l .n)) (λ k. dotB (lineSpot l k) i j)
+-- its number, counted from the first point given, and whether the pattern o paints it
+abbrev pub numberB : Course → ℕ → ℕ
+numberB l k = cond (l .ahead) k (l .n - k)
+
+abbrev pub litB : ℕ → Course → ℕ → Bool
+litB o l k = lit o (numberB l k)
+
+-- all the dots that it paints
+unfoldable pub dashedB : ℕ → Course → ℕ → ℕ → Bool
+dashedB o l i j = someBelow (suc (l .n)) (λ k. litB o l k && dotB (lineSpot l k) i j)

@@ -10,11 +10,11 @@ use Rattle.raster.specs.Rects.{Seen}
 use Rattle.lines.specs.declared.course.Course.{Course}
 use Rattle.lines.specs.declared.walk.Pace.{Pace}
 use Rattle.lines.specs.declared.walk.Place.{Place}
-use Rattle.lines.specs.Courses.{half, offsetOf, lineSpot}
+use Rattle.lines.specs.Courses.{half, offsetOf, lineSpot, litB}
 
--- the dots from dot a on, before dot b
-unfoldable pub stretchB : Course → ℕ → ℕ → ℕ → ℕ → Bool
-stretchB l a b i j = someBelow b (λ k. leb a k && dotB (lineSpot l k) i j)
+-- the dots from dot a on, before dot b, that the pattern o paints
+unfoldable pub stretchB : ℕ → Course → ℕ → ℕ → ℕ → ℕ → Bool
+stretchB o l a b i j = someBelow b (λ k. leb a k && (litB o l k && dotB (lineSpot l k) i j))
 
 -- all of them lie within a screen w wide whose bytes are s
 abbrev pub AllSeen : ℕ → Course → ℕ → ℕ → List ℕ → Type 0

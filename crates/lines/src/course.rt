@@ -10,10 +10,12 @@ ghost use mathlib.Core.Bool.{cond};
 ghost use Prim.Native.Nat.{_≤_};
 ghost use Rattle.lines.specs.Courses.{alongB, acrossB, courseFrom, courseOf, half, spotAt, Fair};
 
-// flat says that x is the long axis. along and across are the start's coordinates on the long axis and on the other, up
-// says that the end's on the other is not smaller, and n and m are the larger and the smaller difference.
+// flat says that x is the long axis, and ahead that the start is the first point given. along and across are the start's
+// coordinates on the long axis and on the other, up says that the end's on the other is not smaller, and n and m are the
+// larger and the smaller difference.
 pub struct Course {
     pub flat: bool,
+    pub ahead: bool,
     pub along: u32,
     pub across: u32,
     pub up: bool,
@@ -40,14 +42,15 @@ fn choose(t: bool, p: Spot, q: Spot) -> Spot
 }
 
 // From p, whose coordinate on the long axis is not the larger, to q.
-fn course_from(flat: bool, n: u32, m: u32, p: Spot, q: Spot) -> Course
-    ensures { λ r. ⌜ r ≡ courseFrom flat n m p q ⌝ }
+fn course_from(flat: bool, ahead: bool, n: u32, m: u32, p: Spot, q: Spot) -> Course
+    ensures { λ r. ⌜ r ≡ courseFrom flat ahead n m p q ⌝ }
 {
     let along = along_of(flat, p);
     let across = across_of(flat, p);
     let end = across_of(flat, q);
     Course {
         flat,
+        ahead,
         along,
         across,
         up: across <= end,
@@ -64,13 +67,14 @@ pub fn course_of(p: Spot, q: Spot) -> Course
     let dx = gap_of(p.x, q.x);
     let dy = gap_of(p.y, q.y);
     let flat = dy <= dx;
-    let rising = along_of(flat, p) <= along_of(flat, q);
+    let ahead = along_of(flat, p) <= along_of(flat, q);
     course_from(
         flat,
+        ahead,
         larger(dx, dy),
         smaller(dx, dy),
-        choose(rising, p, q),
-        choose(rising, q, p),
+        choose(ahead, p, q),
+        choose(ahead, q, p),
     )
 }
 

@@ -9,6 +9,7 @@ use raster::rect::byte_of;
 ghost use mathlib.Core.Path.{_≡_};
 ghost use Prim.Native.Nat.{suc, _*_, _<_, _≤_};
 ghost use Rattle.raster.specs.Rects.{pixels};
+ghost use Rattle.lines.specs.Dashes.{solid};
 ghost use Rattle.lines.specs.Courses.{Fair};
 ghost use Rattle.lines.specs.Walks.{stretchB, stride, nextPlace, AllSeen, Paced, Reached};
 
@@ -43,12 +44,12 @@ fn stride_of(in_row: bool, w: u32) -> usize
 }
 
 // What a step adds to a dot's byte: straight on, or on and one aside. The latter may lead back, so it is added modulo 2^64.
-struct Pace {
-    on: usize,
-    aside: usize,
+pub struct Pace {
+    pub on: usize,
+    pub aside: usize,
 }
 
-fn pace_of(w: u32, l: Course) -> Pace
+pub fn pace_of(w: u32, l: Course) -> Pace
     requires { ⌜ w ≤ 2048 ⌝ }
     ensures { λ p. ⌜ Paced w l p ⌝ }
 {
@@ -68,13 +69,13 @@ fn pace_of(w: u32, l: Course) -> Pace
 }
 
 // A dot's byte, and what is left there.
-struct Place {
-    at: usize,
-    e: u32,
+pub struct Place {
+    pub at: usize,
+    pub e: u32,
 }
 
 // One step along the long axis: aside too where 2m more make 2n or more, which is where e is not below `room`.
-fn next(l: Course, p: Pace, at: usize, e: u32) -> Place
+pub fn next(l: Course, p: Pace, at: usize, e: u32) -> Place
     requires { ⌜ (l .m ≤ l .n) × (l .n < 131072) × (e < 2 * l .n) × (at < 4294967296) × (p .on ≤ 2048) ⌝ }
     ensures { λ r. ⌜ r ≡ nextPlace l p at e ⌝ }
 {
@@ -96,7 +97,7 @@ fn next(l: Course, p: Pace, at: usize, e: u32) -> Place
 pub fn walk(screen: &mut [u8], w: u32, l: Course, first: u32, last: u32, s: Slope, c: u8)
     requires { ⌜ AllSeen w l first (suc last) (now screen) ⌝ }
     requires { ⌜ Fair l × Reached l first (s .q) (s .e) × (first ≤ last) × (last ≤ l .n) ⌝ }
-    ensures { λ _. ⌜ now (screen .exit) ≡ pixels w (stretchB l first (suc last)) c (now (screen .entry)) ⌝ }
+    ensures { λ _. ⌜ now (screen .exit) ≡ pixels w (stretchB solid l first (suc last)) c (now (screen .entry)) ⌝ }
 {
     let p = pace_of(w, l);
     let mut k = first;

@@ -22,6 +22,7 @@ returns c =
     (λ i.
     record {
       flat = g .flat;
+      ahead = g .ahead;
       along = along .along-of .ensures i;
       across = across .across-of .ensures i;
       up = leb (across .across-of .ensures i) (end .across-of2 .ensures i);

@@ -5,16 +5,14 @@ use Prim.Native.Nat.{ℕ, min, max}
 use lib.Dec.{leb}
 use borrow.Author.Needs.{needs}
 use Rattle.raster.specs.declared.biased.Spot.{Spot}
+use Rattle.lines.specs.declared.course.Course.{Course}
 use Rattle.lines.specs.Courses.{risingB, courseFrom}
 use Rattle.lines.proofs.course.course_of.Statement.{statement}
 use Rattle.lines.proofs.course.course_of.Tie as tie
 
--- the ends, the start first
-abbrev first : Bool → Spot → Spot → Spot
-first t p q = cond (risingB t p q) p q
-
-abbrev second : Bool → Spot → Spot → Spot
-second t p q = cond (risingB t p q) q p
+-- the course by its long axis and the two differences
+abbrev byAxis : Bool → Spot → Spot → ℕ → ℕ → Course
+byAxis t p q n m = courseFrom t (risingB t p q) n m (cond (risingB t p q) p q) (cond (risingB t p q) q p)
 
 gap-of-requires : tie.Need-gap-of-requires
 gap-of-requires c κs = search needs
@@ -58,11 +56,12 @@ returns c =
     let dy = gy .gap-of2 .ensures in
     let u = gx .gap-of .result in
     let v = gy .gap-of2 .result in
-    let rising = ap₂ (λ (d e : ℕ). leb d e) (a .along-of .ensures) (a′ .along-of2 .ensures) in
+    let t = leb (a .along-of .result) (a′ .along-of2 .result) in
+    let ahead = ap₂ (λ (d e : ℕ). leb d e) (a .along-of .ensures) (a′ .along-of2 .ensures) in
     c .course-from .ensures
-    ∙ (λ i. courseFrom (leb v u) (n .larger .ensures i) (m .smaller .ensures i) (start .choose .ensures i) (finish .choose2 .ensures i))
-    ∙ (λ i. courseFrom (leb v u) (max u v) (min u v) (cond (rising i) (g .p) (g .q)) (cond (rising i) (g .q) (g .p)))
-    ∙ (λ i. courseFrom (leb (dy i) (dx i)) (max (dx i) (dy i)) (min (dx i) (dy i)) (first (leb (dy i) (dx i)) (g .p) (g .q)) (second (leb (dy i) (dx i)) (g .p) (g .q)))
+    ∙ (λ i. courseFrom (leb v u) t (n .larger .ensures i) (m .smaller .ensures i) (start .choose .ensures i) (finish .choose2 .ensures i))
+    ∙ (λ i. courseFrom (leb v u) (ahead i) (max u v) (min u v) (cond (ahead i) (g .p) (g .q)) (cond (ahead i) (g .q) (g .p)))
+    ∙ (λ i. byAxis (leb (dy i) (dx i)) (g .p) (g .q) (max (dx i) (dy i)) (min (dx i) (dy i)))
 
 pub course-of-spec : {M : Type 1} → statement M
 course-of-spec =

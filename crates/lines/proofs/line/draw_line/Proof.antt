@@ -1,5 +1,5 @@
 -- `lines::line::draw_line` meets its contract: the course's dots within the rectangle are the line's drawable dots.
-use mathlib.Core.Path.{_≡_, sym, ap, ap₂, _∙_, subst, subst⁻¹}
+use mathlib.Core.Path.{_≡_, refl, sym, ap₂, _∙_, subst, subst⁻¹}
 use mathlib.Core.Bool.{_&&_}
 use Prim.Native.Nat.{ℕ, suc, _+_, _-_, _<_, _≤_}
 use native.Mathlib.Omega.{arith}
@@ -13,9 +13,10 @@ use Rattle.raster.proofs.Rectangles.{room}
 use Rattle.raster.proofs.Pixels.{seen}
 use Rattle.raster.proofs.Drawings.{painted}
 use Rattle.lines.specs.declared.course.Course.{Course}
-use Rattle.lines.specs.Line.{line}
-use Rattle.lines.specs.Courses.{lineOf, courseOf, lineSpot, lineB, Fair}
-use Rattle.lines.proofs.Courses.{fair, line-is}
+use Rattle.lines.specs.Dashes.{dashed, solid}
+use Rattle.lines.specs.Courses.{lineOf, courseOf, lineSpot, dashedB, Fair}
+use Rattle.lines.specs.Walks.{AllSeen}
+use Rattle.lines.proofs.Courses.{fair, dashed-is}
 use Rattle.lines.proofs.Spans.{line-within}
 use Rattle.lines.proofs.Walks.{stretched, none-yet}
 use Rattle.lines.proofs.line.draw_line.Statement.{statement}
@@ -41,8 +42,8 @@ module _ (c : tie.After-rect-of) where
 
 -- the dots within the rectangle are the line's drawable dots
 all-painted : (c : tie.After-dots-within) → let g = S (c .before) .args in
-    stretched (g .f .bounds .width) (O (c .before) .course-of .result) (c .dots-within .result .from) (c .dots-within .result .past) (g .c) (g .screen .now)
-    ≡ paint (g .f) (line (lineOf (g .p) (g .q))) (g .c) (g .screen .now)
+    stretched (g .f .bounds .width) (g .pattern) (O (c .before) .course-of .result) (c .dots-within .result .from) (c .dots-within .result .past) (g .c) (g .screen .now)
+    ≡ paint (g .f) (dashed (g .pattern) (lineOf (g .p) (g .q))) (g .c) (g .screen .now)
 all-painted c =
     let r = c .before in
     let s = S r in
@@ -50,10 +51,10 @@ all-painted c =
     let h = s .pre .1 in
     let w = g .f .bounds .width in
     let l = O r .course-of .result in
-    (λ u. pixels w (λ i j. line-within (r .rect-of .result) l (c .dots-within .result .from) (c .dots-within .result .past) (c .dots-within .ensures) i j u) (g .c) (g .screen .now))
-    ∙ ap₂ (λ (b : Rect) (o : Course). pixels w (λ i j. inRect b i j && lineB o i j) (g .c) (g .screen .now)) (r .rect-of .ensures) (course r)
-    ∙ painted (g .f) (g .screen .now) (s .pre .0) (line (lineOf (g .p) (g .q))) (lineB (courseOf (spotOf (dotOf (g .p))) (spotOf (dotOf (g .q))))) (g .c)
-    (line-is (lineOf (g .p) (g .q)) (h .0) (h .1))
+    (λ u. pixels w (λ i j. line-within (g .pattern) (r .rect-of .result) l (c .dots-within .result .from) (c .dots-within .result .past) (c .dots-within .ensures) i j u) (g .c) (g .screen .now))
+    ∙ ap₂ (λ (b : Rect) (o : Course). pixels w (λ i j. inRect b i j && dashedB (g .pattern) o i j) (g .c) (g .screen .now)) (r .rect-of .ensures) (course r)
+    ∙ painted (g .f) (g .screen .now) (s .pre .0) (dashed (g .pattern) (lineOf (g .p) (g .q)))
+    (dashedB (g .pattern) (courseOf (spotOf (dotOf (g .p))) (spotOf (dotOf (g .q))))) (g .c) (λ i j. dashed-is (lineOf (g .p) (g .q)) (h .0) (h .1) i j (g .pattern))
 
 -- ---- numbers
 to-last : (a b n : ℕ) → a < b → b ≤ n + 1 → (a ≤ b - 1) × (b - 1 ≤ n) × (a ≤ n) × (suc (b - 1) ≡ b)
@@ -88,44 +89,79 @@ module _ (c : tie.Then1) where
 slope-at-requires : tie.Need-slope-at-requires
 slope-at-requires c κs = (is-fair (W c .before), ends c .2)
 
+-- ---- what both walks are given
+module _ (p : tie.After-slope-at) where
+  abbrev t : tie.Then1
+  t = p .before
+
+  abbrev r : tie.After-rect-of
+  r = W t .before
+
+  abbrev l : Course
+  l = O r .course-of .result
+
+  some-dot : 1 ≤ W t .dots-within .result .past
+  some-dot = some (W t .dots-within .result .from) (W t .dots-within .result .past) (t .if1 .taken)
+    where
+      some : (a b : ℕ) → a < b → 1 ≤ b
+      some a b h = omega arith
+
+  all-seen : AllSeen (S r .args .f .bounds .width) l (W t .dots-within .result .from) (suc (W t .dots-within .result .past - 1)) (S r .args .screen .now)
+  all-seen k a b =
+      seen (S r .args .f .bounds .width) (r .rect-of .result) (lineSpot l k) (S r .args .screen .now) (has-room r)
+      (W t .dots-within .ensures .inside k a (subst (λ (n : ℕ). k < n) (ends t .3) b))
+
+  -- and what it leaves is the line
+  whole : let g = S r .args in (o : ℕ) → o ≡ g .pattern
+      → stretched (g .f .bounds .width) o l (W t .dots-within .result .from) (suc (W t .dots-within .result .past - 1)) (g .c) (g .screen .now)
+      ≡ paint (g .f) (dashed (g .pattern) (lineOf (g .p) (g .q))) (g .c) (g .screen .now)
+  whole o e =
+      let g = S r .args in
+      ap₂ (λ (o b : ℕ). stretched (g .f .bounds .width) o l (W t .dots-within .result .from) b (g .c) (g .screen .now)) e (ends t .3)
+      ∙ all-painted (W t)
+
 sub-walk : tie.Need-sub-walk
-sub-walk c = let t = c .before .before .before in some (W t .dots-within .result .from) (W t .dots-within .result .past) (t .if1 .taken)
-  where
-    some : (a b : ℕ) → a < b → 1 ≤ b
-    some a b h = omega arith
+sub-walk c = some-dot (c .before .before .before)
 
 walk-requires : tie.Need-walk-requires
 walk-requires c κs =
-    let p = c .before .before in
-    let t = p .before in
-    let r = W t .before in
-    let s = S r in
-    let g = s .args in
-    let l = O r .course-of .result in (
-      (λ k a b.
-          seen (g .f .bounds .width) (r .rect-of .result) (lineSpot l k) (g .screen .now) (has-room r)
-          (W t .dots-within .ensures .inside k a (subst (λ (n : ℕ). k < n) (ends t .3) b))),
-      (is-fair r, p .slope-at .ensures, ends t .0, ends t .1),
-    )
+    let p = c .before .before .before in
+    (all-seen p, (is-fair (r p), p .slope-at .ensures, ends (t p) .0, ends (t p) .1))
+
+sub-dash : tie.Need-sub-dash
+sub-dash c = some-dot (c .before .before .before)
+
+dash-requires : tie.Need-dash-requires
+dash-requires c κs =
+    let p = c .before .before .before in
+    (all-seen p, (is-fair (r p), p .slope-at .ensures, ends (t p) .0, ends (t p) .1))
 
 same-length : tie.Need-same-length
 same-length c = search needs
 
+-- all ones
 returns : tie.Need-returns
 returns c =
     let v = c .before .before in
-    let t = v .before .before .before .before in
-    let g = S (W t .before) .args in
-    let l = O (W t .before) .course-of .result in
-    v .walk .ensures
-    ∙ ap (λ (b : ℕ). stretched (g .f .bounds .width) l (W t .dots-within .result .from) b (g .c) (g .screen .now)) (ends t .3)
-    ∙ all-painted (W t)
+    let e = v .before .before .before in
+    v .walk .ensures ∙ whole (e .before) solid (sym (e .if2 .taken))
 
+same-length-2 : tie.Need-same-length-2
+same-length-2 c = search needs
+
+-- any other pattern
 returns-2 : tie.Need-returns-2
 returns-2 c =
+    let v = c .before .before in
+    let p = v .before .before .before .before in
+    v .dash .ensures ∙ whole p (S (r p) .args .pattern) refl
+
+-- where no dot is within
+returns-3 : tie.Need-returns-3
+returns-3 c =
     let d = c .before .before in
     let g = S (d .before) .args in
-    none-yet (g .f .bounds .width) (O (d .before) .course-of .result) (d .dots-within .result .from) (g .c) (g .screen .now) (d .dots-within .result .past) (c .if1 .left)
+    none-yet (g .f .bounds .width) (g .pattern) (O (d .before) .course-of .result) (d .dots-within .result .from) (g .c) (g .screen .now) (d .dots-within .result .past) (c .if1 .left)
     ∙ all-painted d
 
 pub draw-line-spec : {M : Type 1} → statement M
@@ -138,6 +174,10 @@ draw-line-spec =
     slope-at-requires
     sub-walk
     walk-requires
+    sub-dash
+    dash-requires
     same-length
     returns
-    returns-2)
+    same-length-2
+    returns-2
+    returns-3)
