@@ -15,14 +15,14 @@ use Rattle.raster.specs.declared.dots.Dot.{Dot}
 use Rattle.lines.specs.declared.line.Line.{Line}
 use Rattle.raster.specs.declared.biased.Spot.{Spot}
 use Rattle.raster.specs.Shapes.{dot, all}
-use Rattle.lines.specs.Line.{line}
+use Rattle.lines.specs.Dashes.{dashed}
 use Rattle.lines.specs.Courses.{lineOf}
 use Rattle.raster.specs.Frame.{Coord}
 use Rattle.raster.specs.Biased.{spotOf, dotOf, NearB}
 use Rattle.circles.specs.declared.circle.Circle.{Circle}
 use Rattle.circles.specs.Circle.{disc, outline, circle}
 use Rattle.circles.specs.Reaches.{circleOf}
-use Rattle.brush.specs.Brush.{kind, one, other, radius, shapeOf, Full, Radius, Near, Holds}
+use Rattle.brush.specs.Brush.{kind, one, other, pattern, radius, shapeOf, Full, Radius, Near, Holds}
 use Rattle.raster.proofs.Coordinates.{dot-back}
 use Rattle.brush.proofs.Spelt.{spelt, one-by-one}
 
@@ -63,17 +63,19 @@ module _ (b : List ℕ) (l : Full b) (c : ℕ) (k : c < 256) where
       (one-by-one 0 (λ b. Holds (dot d) c (set (set (set (set b 0 1) 1 c) 2 (spotOf d .x)) 3 (spotOf d .y))) b l
       (record { full = refl; near = unasked 1 refl refl; shape = ap dot (dot-back d h); colour = byte c k }))
 
-  pub line-held : (m : Line) → (Coord (m .from .x) × Coord (m .from .y) × Coord (m .to .x) × Coord (m .to .y)) → (p q : Spot) → p ≡ spotOf (m .from) → q ≡ spotOf (m .to)
-      → Holds (line m) c (set (set (set (set (set (set b 0 2) 1 c) 2 (p .x)) 3 (p .y)) 4 (q .x)) 5 (q .y))
+  abbrev straight : Spot → Spot → ℕ → List ℕ → List ℕ
+  straight p q o b = set (set (set (set (set (set (set b 0 2) 1 c) 2 (p .x)) 3 (p .y)) 4 (q .x)) 5 (q .y)) 6 o
+
+  pub line-held : (m : Line) → (Coord (m .from .x) × Coord (m .from .y) × Coord (m .to .x) × Coord (m .to .y)) → (o : ℕ) (p q : Spot) → p ≡ spotOf (m .from)
+      → q ≡ spotOf (m .to) → Holds (dashed o m) c (straight p q o b)
   unfolding shapeOf
-  line-held m h p q ep eq =
+  line-held m h o p q ep eq =
       rw (ep, eq)
-      (one-by-one 0
-      (λ b. Holds (line m) c (set (set (set (set (set (set b 0 2) 1 c) 2 (spotOf (m .from) .x)) 3 (spotOf (m .from) .y)) 4 (spotOf (m .to) .x)) 5 (spotOf (m .to) .y))) b l
+      (one-by-one 0 (λ b. Holds (dashed o m) c (straight (spotOf (m .from)) (spotOf (m .to)) o b)) b l
       (record {
         full = refl;
         near = record { line = λ z. (near-back (m .from) (h .0, h .1), near-back (m .to) (h .2, h .3)); disc = λ z. absurd (omega (arith, z)); outline = λ z. absurd (omega (arith, z)) };
-        shape = ap line (λ i. record { from = dot-back (m .from) (h .0, h .1) i; to = dot-back (m .to) (h .2, h .3) i });
+        shape = ap (dashed o) (λ i. record { from = dot-back (m .from) (h .0, h .1) i; to = dot-back (m .to) (h .2, h .3) i });
         colour = byte c k;
       }))
 
@@ -92,7 +94,7 @@ module _ (b : List ℕ) (l : Full b) (c : ℕ) (k : c < 256) where
       asked : NearB (spotOf (m .centre)) × (natAbs (m .radius) < 32768)
       asked = (near-back (m .centre) (h .0, h .1), radius-small (m .radius) (h .2))
 
-      by : (t : Bool) → Holds (circle t m) c (roundly t (spotOf (m .centre)) (natAbs (m .radius)) (spelt 0 6 b))
+      by : (t : Bool) → Holds (circle t m) c (roundly t (spotOf (m .centre)) (natAbs (m .radius)) (spelt 0 7 b))
       by true =
           record { full = refl; near = record { line = λ z. absurd (omega (arith, z)); disc = λ z. asked; outline = λ z. asked }; shape = ap disc same; colour = byte c k }
       by false =
@@ -110,7 +112,7 @@ module _ (b : List ℕ) where
   unfolding shapeOf
   holds-dot e = rw e
 
-  pub holds-line : kind b ≡ 2 → shapeOf b ≡ line (lineOf (one b) (other b))
+  pub holds-line : kind b ≡ 2 → shapeOf b ≡ dashed (pattern b) (lineOf (one b) (other b))
   unfolding shapeOf
   holds-line e = rw e
 

@@ -1,4 +1,4 @@
--- A brush: six numbers that say what is to be painted. 0 the kind of shape, 1 the colour, 2 and 3 a point, biased, 4 and 5 another, or 4 a radius.
+-- A brush: seven numbers that say what is to be painted. 0 the kind of shape, 1 the colour, 2 and 3 a point, biased, 4 and 5 another, or 4 a radius, 6 a pattern.
 use mathlib.Core.Bool.{true, false, cond}
 use mathlib.Core.Path.{_≡_}
 use mathlib.Core.List.{List}
@@ -9,7 +9,7 @@ use lib.Dec.{eqb}
 use lib.ListN.{length, getD}
 use Rattle.raster.specs.declared.biased.Spot.{Spot}
 use Rattle.raster.specs.Shapes.{Shape, dot, all}
-use Rattle.lines.specs.Line.{line}
+use Rattle.lines.specs.Dashes.{dashed}
 use Rattle.lines.specs.Courses.{lineOf}
 use Rattle.raster.specs.Biased.{dotOf, NearB}
 use Rattle.circles.specs.Circle.{disc, outline}
@@ -25,6 +25,10 @@ one p = record { x = getD p 2 0; y = getD p 3 0 }
 abbrev pub other : List ℕ → Spot
 other p = record { x = getD p 4 0; y = getD p 5 0 }
 
+-- between which a line has a pattern
+abbrev pub pattern : List ℕ → ℕ
+pattern p = getD p 6 0
+
 -- or the first is a centre, with a radius
 abbrev pub radius : List ℕ → ℕ
 radius p = getD p 4 0
@@ -33,7 +37,7 @@ radius p = getD p 4 0
 abbrev pub shapeBy : ℕ → List ℕ → Shape
 shapeBy k p =
     cond (eqb k 1) (dot (dotOf (one p)))
-    (cond (eqb k 2) (line (lineOf (one p) (other p)))
+    (cond (eqb k 2) (dashed (pattern p) (lineOf (one p) (other p)))
     (cond (eqb k 3) all
     (cond (eqb k 4) (disc (circleOf (one p) (radius p)))
     (cond (eqb k 5) (outline (circleOf (one p) (radius p))) (λ x y. false)))))
@@ -47,7 +51,7 @@ colourOf p = getD p 1 0 % 256
 
 -- as many numbers as a brush has
 abbrev pub Full : List ℕ → Type 0
-Full p = length p ≡ 6
+Full p = length p ≡ 7
 
 -- z is a radius: 0 to 32,767
 pub record Radius (z : ℤ) : Type 0 where

@@ -1,26 +1,26 @@
-// What is to be painted, held in six numbers, so that who says what is painted needs no screen; and the painting of it.
+// What is to be painted, held in seven numbers, so that who says what is painted needs no screen; and the painting of it.
 use circles::circle::Circle;
 use circles::circle::draw_disc;
 use circles::circle::draw_outline;
+use lines::line::Line;
+use lines::line::draw_line;
 use raster::biased::Spot;
 use raster::biased::spot_of;
 use raster::dots::Dot;
 use raster::dots::plot;
 use raster::fill::fill;
 use raster::frame::Frame;
-use lines::line::Line;
-use lines::line::draw_line;
 ghost use mathlib.Core.Path.{_≡_};
 ghost use Rattle.raster.specs.Shapes.{dot, all};
-ghost use Rattle.lines.specs.Line.{line};
+ghost use Rattle.lines.specs.Dashes.{dashed};
 ghost use Rattle.raster.specs.Frame.{Coord, Fitting};
 ghost use Rattle.raster.specs.Paint as Paint;
 ghost use Rattle.circles.specs.Circle.{circle};
 ghost use Rattle.brush.specs.Brush.{Full, Radius, Near, Holds, shapeOf, colourOf};
 
 // 0 the kind: 1 a dot, 2 a line, 3 every dot, 4 a filled circle, 5 a circle's outline, any other nothing; 1 the colour; 2 and 3 a point,
-// biased; 4 and 5 another, or 4 a radius.
-pub type Brush = [u32; 6];
+// biased; 4 and 5 another, or 4 a radius; 6 a line's pattern.
+pub type Brush = [u32; 7];
 
 pub fn hold_dot(brush: &mut Brush, d: Dot, c: u8)
     requires { ⌜ Full (now brush) ⌝ }
@@ -34,10 +34,11 @@ pub fn hold_dot(brush: &mut Brush, d: Dot, c: u8)
     brush[3] = p.y;
 }
 
-pub fn hold_line(brush: &mut Brush, l: Line, c: u8)
+// The dots of a line that a pattern paints.
+pub fn hold_line(brush: &mut Brush, l: Line, pattern: u32, c: u8)
     requires { ⌜ Full (now brush) ⌝ }
     requires { ⌜ Coord (l .from .x) × Coord (l .from .y) × Coord (l .to .x) × Coord (l .to .y) ⌝ }
-    ensures { λ _. ⌜ Holds (line l) c (now (brush .exit)) ⌝ }
+    ensures { λ _. ⌜ Holds (dashed pattern l) c (now (brush .exit)) ⌝ }
 {
     let p = spot_of(l.from);
     let q = spot_of(l.to);
@@ -47,6 +48,7 @@ pub fn hold_line(brush: &mut Brush, l: Line, c: u8)
     brush[3] = p.y;
     brush[4] = q.x;
     brush[5] = q.y;
+    brush[6] = pattern;
 }
 
 pub fn hold_all(brush: &mut Brush, c: u8)
@@ -89,7 +91,7 @@ pub fn paint(screen: &mut [u8], f: Frame, brush: &Brush)
                 x: brush[4],
                 y: brush[5],
             };
-            draw_line(screen, f, p, q, c)
+            draw_line(screen, f, p, q, brush[6], c)
         }
         3 => fill(screen, f, c),
         4 => draw_disc(screen, f, p, brush[4], c),

@@ -19,7 +19,7 @@ as-held m R e = let g = S m .args in ap (λ (T : Shape). paint (g .f) T (colourO
 
 draw-line-requires : tie.Need-draw-line-requires
 draw-line-requires c κs =
-    let k = c .before .before .before in
+    let k = c .before .before .before .before in
     let s = S (k .before) in
     (s .pre .0, s .pre .1 .line (k .match .keys2))
 
@@ -44,7 +44,7 @@ returns c =
 returns-2 : tie.Need-returns-2
 returns-2 c =
     let d = c .before .before in
-    let k = d .before .before .before .before in
+    let k = d .before .before .before .before .before in
     d .draw-line .ensures ∙ as-held (k .before) _ (holds-line (S (k .before) .args .brush .now) (k .match .keys2))
 
 returns-3 : tie.Need-returns-3
@@ -75,7 +75,7 @@ paint-spec =
     tie.close (tie.spec
     (λ c. search needs) (λ c. search needs) (λ c. search needs) (λ c. search needs) (λ c. search needs)
     (λ c κs. search needs)
-    (λ c. search needs) (λ c. search needs)
+    (λ c. search needs) (λ c. search needs) (λ c. search needs)
     draw-line-requires
     (λ c κs. search needs)
     (λ c. search needs) draw-disc-requires
