@@ -40,6 +40,8 @@ pub fn form_of(word: u16) -> Form
         0x0071 => Form::Value(ValueForm::Ldvv),
         0x0074 => Form::Paint(PaintForm::Line),
         0x0075 => Form::Paint(PaintForm::Linev),
+        0x0078 => Form::Pen(PenForm::Linepatn),
+        0x0079 => Form::Pen(PenForm::Linepatnv),
         0x007C => Form::Paint(PaintForm::Lineto),
         0x007D => Form::Paint(PaintForm::Linetov),
         0x007E => Form::Paint(PaintForm::Linetor),

@@ -55,6 +55,7 @@ rule-keeps Op.Return o n e = refl
 rule-keeps Op.ClipMode o n e = refl
 rule-keeps Op.ClipWindow o n e = refl
 rule-keeps Op.Colour o n e = refl
+rule-keeps Op.Pattern o n e = refl
 rule-keeps Op.MoveTo o n e = refl
 rule-keeps Op.MoveBy o n e = refl
 rule-keeps Op.Pixel o n e = refl

@@ -1,5 +1,5 @@
--- Document 01, 'Cases, whole answers': the starred cases with their variants, as one table of whole answers; some edges; the places of 23; the seven conditions; and document 02's circles.
-use Prim.Native.Nat.{ℕ, _-_, _^_}
+-- Document 01, 'Cases, whole answers': the starred cases with their variants, as one table of whole answers; some edges; the places of 23; the seven conditions; and document 02's circles and dashed lines.
+use Prim.Native.Nat.{ℕ, _+_, _-_, _*_, _^_}
 use mathlib.Core.Path.{_≡_, refl}
 use mathlib.Core.List.{List, [], _∷_, map}
 use lib.IntN.{pos}
@@ -11,6 +11,7 @@ use Rattle.raster.specs.Shapes.{someBelow}
 use Rattle.raster.specs.Frame.{drawable}
 use Rattle.raster.specs.Paint.{recolourFrom, paint}
 use Rattle.lines.specs.Line.{line, side}
+use Rattle.lines.specs.Dashes.{bit, dashed}
 use Rattle.circles.specs.Circle.{disc, outline}
 use Rattle.player.specs.Player.{fault, verdict}
 use Rattle.player.specs.Run.{Answer, answer, runs}
@@ -19,7 +20,7 @@ use Rattle.player.specs.Door.{doorOf}
 use Rattle.rules.specs.Types.{Bounds, Running, Ended, Stopped}
 use Rattle.rules.specs.Table.{formOf}
 use Rattle.rules.specs.Conditions.{allowed, met}
-use Rattle.rules.specs.Environment.{Env, env, start, put, clipped, windowed, goto, stacked, stated, compared}
+use Rattle.rules.specs.Environment.{Env, env, start, put, moved, patterned, clipped, windowed, goto, stacked, stated, compared}
 use Rattle.rules.specs.Step.{carried, step}
 use Rattle.rules.specs.Door.{door, whole}
 use Rattle.rules.specs.Fresh.{fresh}
@@ -122,9 +123,9 @@ abbrev pub cleared : List ℕ
 cleared =
     0x0018 ∷ 0x0001 ∷ 0x0000 ∷ 0x0003 ∷ 0x0001 ∷ 0x0016 ∷ 0x0001 ∷ 0x0188 ∷ 0x0007 ∷ 0x0000 ∷ 0x0000 ∷ 0x0001 ∷ []
 
--- V0 = 1 and V1 = 65,536, and a line of that type from that column: 24 comes before 25
+-- V0 = 2 and V1 = 65,536, and a line of that type from that column: 24 comes before 25
 abbrev pub wrongTwice : List ℕ
-wrongTwice = 0x0065 ∷ 0x0001 ∷ 0x0000 ∷ 0x0066 ∷ 0x0000 ∷ 0x0001 ∷ 0x0001 ∷ 0x0075 ∷ 0x0000 ∷ []
+wrongTwice = 0x0065 ∷ 0x0002 ∷ 0x0000 ∷ 0x0066 ∷ 0x0000 ∷ 0x0001 ∷ 0x0001 ∷ 0x0075 ∷ 0x0000 ∷ []
 
 abbrev pub edges : List Case
 edges =
@@ -133,7 +134,7 @@ edges =
     0 ∷ 7 ∷ 7 ∷ 7 ∷ 0 ∷
     0 ∷ 0 ∷ 0 ∷ 0 ∷ 0 ∷ [])
     (case cleared 0 (ended 12 (clipped 1 (windowed (record { x0 = pos 1; y0 = pos 0; x1 = pos 3; y1 = pos 1 }) e₀))) 4) ∷
-    stops wrongTwice 24 7 (at 7 (var 0 1 (var 1 65536 e₀))) 2 ∷
+    stops wrongTwice 24 7 (at 7 (var 0 2 (var 1 65536 e₀))) 2 ∷
     []
 
 -- ---- the places of 23: behind a NOOP, the first operand word that names a variable above 63, or one with such followers
@@ -223,6 +224,51 @@ circles =
     stops (0x0066 ∷ 0x0000 ∷ 0x0001 ∷ 0x0001 ∷ 0x0013 ∷ 0x0000 ∷ []) 25 4 (at 4 (var 1 65536 e₀)) 1 ∷  -- CIRV, x 65,536
     []
 
+-- ---- dashed lines between (0, 0) and (4, 2)
+
+-- LINEPATN of two equal words, and a list behind it
+abbrev pub dashing : ℕ → List ℕ → List ℕ
+dashing half w = 0x0078 ∷ half ∷ half ∷ w
+
+-- LINE in a type, from the first point or from the second
+abbrev pub ahead : ℕ → List ℕ
+ahead type = 0x0074 ∷ type ∷ 0x0000 ∷ 0x0000 ∷ 0x0004 ∷ 0x0002 ∷ 0x0001 ∷ []
+
+abbrev pub back : ℕ → List ℕ
+back type = 0x0074 ∷ type ∷ 0x0004 ∷ 0x0002 ∷ 0x0000 ∷ 0x0000 ∷ 0x0001 ∷ []
+
+-- the pattern of two equal halves
+abbrev pub twice : ℕ → ℕ
+twice half = half * 65536 + half
+
+abbrev pub firstDot : List ℕ
+firstDot =
+    15 ∷ 0 ∷ 0 ∷ 0 ∷ 0 ∷
+    0 ∷ 0 ∷ 0 ∷ 0 ∷ 0 ∷
+    0 ∷ 0 ∷ 0 ∷ 0 ∷ 0 ∷ []
+
+abbrev pub dashes : List Case
+dashes =
+    shows e₀ sloped (case (ahead 0x0001) 0 (ended 7 e₀) 2) ∷  -- a fresh pattern is all ones
+    shows e₀  -- dots 0, 3, 4: bits 0, 3, 4 of 1001 1001 .., from the first point
+    (15 ∷ 0 ∷ 0 ∷ 0 ∷ 0 ∷
+    0 ∷ 0 ∷ 0 ∷ 0 ∷ 0 ∷
+    0 ∷ 0 ∷ 0 ∷ 15 ∷ 15 ∷ [])
+    (case (dashing 0x9999 (ahead 0x0001)) 0 (ended 10 (patterned (twice 0x9999) e₀)) 3) ∷
+    shows e₀  -- and from the second
+    (15 ∷ 0 ∷ 0 ∷ 0 ∷ 0 ∷
+    0 ∷ 15 ∷ 0 ∷ 0 ∷ 0 ∷
+    0 ∷ 0 ∷ 0 ∷ 0 ∷ 15 ∷ [])
+    (case (dashing 0x9999 (back 0x0001)) 0 (ended 10 (patterned (twice 0x9999) e₀)) 3) ∷
+    shows e₀ sloped (case (dashing 0x9999 (back 0x0000)) 0 (ended 10 (patterned (twice 0x9999) e₀)) 3) ∷  -- type 0 asks no pattern
+    case (dashing 0x0000 (ahead 0x0001)) 0 (ended 10 (patterned 0 e₀)) 3 ∷  -- zero bits paint nothing
+    shows e₀ firstDot  -- LINEPATNV V0, where V0 is 1, and LINETO (4, 2), which moves the position
+    (case (0x0065 ∷ 0x0001 ∷ 0x0000 ∷ 0x0079 ∷ 0x0000 ∷ 0x007C ∷ 0x0001 ∷ 0x0004 ∷ 0x0002 ∷ 0x0001 ∷ []) 0
+    (ended 10 (moved (record { x = pos 4; y = pos 2 }) (patterned 1 (var 0 1 e₀)))) 4) ∷
+    stops (ahead 0x0002) 24 0 e₀ 0 ∷  -- type 2
+    stops (0x0014 ∷ 0x0001 ∷ 0x0002 ∷ 0x0001 ∷ 0x0001 ∷ 0x0001 ∷ []) 24 0 e₀ 0 ∷  -- CIRS in type 1
+    []
+
 abbrev pub played : Case → Answer Env
 played c = whole c.words blank c.env c.budget
 
@@ -246,10 +292,14 @@ pub circled : map played circles ≡ map (λ (c : Case). c.want) circles
 unfolding signed32 signed16 low32 inWord isRadius recolourFrom someBelow drawable paint disc outline formOf carried step doorOf door answered runs
 circled = refl
 
+pub dashed-lines : map played dashes ≡ map (λ (c : Case). c.want) dashes
+unfolding signed32 signed16 low32 inWord isRadius recolourFrom someBelow drawable paint line side dashed bit disc formOf carried step doorOf door answered runs
+dashed-lines = refl
+
 -- the fresh environment, field by field
 pub fresh-fields : e₀
     ≡ env (bounds 0) (replicate 64 0)
-    (record { position = record { x = pos 0; y = pos 0 }; colour = 15; mode = 0; window = record { x0 = pos 0; y0 = pos 0; x1 = pos 4; y1 = pos 2 } })
+    (record { position = record { x = pos 0; y = pos 0 }; colour = 15; pattern = 0xFFFFFFFF; mode = 0; window = record { x0 = pos 0; y0 = pos 0; x1 = pos 4; y1 = pos 2 } })
     (record { counter = start; stack = []; first = 0; second = 0 })
     Running
 fresh-fields = refl

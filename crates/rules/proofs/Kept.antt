@@ -137,6 +137,7 @@ module _ (o : Operands) (n : ℕ) (few : n ≤ 65536) where
       let q = near (point (o .c) (o .d)) (g .1) in
       in-window e h _ (both _ _ (both _ _ (p .0) (p .1)) (both _ _ (q .0) (q .1)))
   rule-keeps Op.Colour e h f = h
+  rule-keeps Op.Pattern e h f = h
   rule-keeps Op.MoveTo e h f = placed e h (point (o .a) (o .b)) (f .1)
   rule-keeps Op.MoveBy e h f = placed e h (shifted (e .pen .position) (point (o .a) (o .b))) (neither (far (point (o .a) (o .b))) _ (f .1) .1)
   rule-keeps Op.Pixel e h f = h

@@ -9,5 +9,6 @@ pub mod Carried
 pub mod Refusals
 pub mod Slices
 pub mod Unique
+pub mod LineTypes
 pub mod Cases
 pub mod Useless

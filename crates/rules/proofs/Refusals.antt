@@ -60,6 +60,7 @@ rule-goes Op.Return o n e h = h
 rule-goes Op.ClipMode o n e h = h
 rule-goes Op.ClipWindow o n e h = h
 rule-goes Op.Colour o n e h = h
+rule-goes Op.Pattern o n e h = h
 rule-goes Op.MoveTo o n e h = h
 rule-goes Op.MoveBy o n e h = h
 rule-goes Op.Pixel o n e h = h

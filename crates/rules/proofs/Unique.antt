@@ -62,6 +62,7 @@ alike a b h =
         position = h i .pen .position;
         window = h i .pen .window;
         mode = h i .pen .mode;
+        pattern = h i .pen .pattern;
         first = h i .flow .first;
         second = h i .flow .second;
         counter = h i .flow .counter;

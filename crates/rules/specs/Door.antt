@@ -38,7 +38,7 @@ stateFits Running = true
 stateFits Ended = true
 stateFits (Stopped v) = between 20 29 v.number && leb (v .place .0) 65536
 
--- position and window are signed words, the clip mode is 0 to 2; any colour is in range by its type
+-- position and window are signed words, the clip mode is 0 to 2; any colour and any pattern is in range by its type
 abbrev pub penFits : Pen → Bool
 penFits p = inWord (p .position .x) && (inWord (p .position .y) && (leb p.mode 2 && windowFits p.window))
 

@@ -14,6 +14,7 @@ use Rattle.rules.specs.declared.environment.Env as Held
 pub record Pen : Type 0 where
   pub position : Dot
   pub colour : ℕ  -- the foreground colour
+  pub pattern : ℕ  -- the line pattern, 32 bits
   pub mode : ℕ  -- the clip mode
   pub window : Window  -- the clip window
 
@@ -53,16 +54,19 @@ abbrev pub put : VarNo → ℕ → Env → Env
 put d v e = env e.bounds (set e.variables (d .0) v) e.pen e.flow e.state
 
 abbrev pub moved : Dot → Env → Env
-moved p e = let k = e.pen in penned (record { position = p; colour = k.colour; mode = k.mode; window = k.window }) e
+moved p e = let k = e.pen in penned (record { position = p; colour = k.colour; pattern = k.pattern; mode = k.mode; window = k.window }) e
 
 abbrev pub coloured : ℕ → Env → Env
-coloured c e = let k = e.pen in penned (record { position = k.position; colour = c; mode = k.mode; window = k.window }) e
+coloured c e = let k = e.pen in penned (record { position = k.position; colour = c; pattern = k.pattern; mode = k.mode; window = k.window }) e
+
+abbrev pub patterned : ℕ → Env → Env
+patterned o e = let k = e.pen in penned (record { position = k.position; colour = k.colour; pattern = o; mode = k.mode; window = k.window }) e
 
 abbrev pub clipped : ℕ → Env → Env
-clipped m e = let k = e.pen in penned (record { position = k.position; colour = k.colour; mode = m; window = k.window }) e
+clipped m e = let k = e.pen in penned (record { position = k.position; colour = k.colour; pattern = k.pattern; mode = m; window = k.window }) e
 
 abbrev pub windowed : Window → Env → Env
-windowed w e = let k = e.pen in penned (record { position = k.position; colour = k.colour; mode = k.mode; window = w }) e
+windowed w e = let k = e.pen in penned (record { position = k.position; colour = k.colour; pattern = k.pattern; mode = k.mode; window = w }) e
 
 abbrev pub goto : WordIndex → Env → Env
 goto i e = let k = e.flow in flowed (record { counter = i; stack = k.stack; first = k.first; second = k.second }) e
@@ -114,7 +118,7 @@ firsts (suc n) [] = start ∷ firsts n []
 firsts (suc n) (x ∷ xs) = x ∷ firsts n xs
 
 abbrev pub penOf : Registers → Pen
-penOf r = record { position = r.position; colour = r.colour; mode = r.mode; window = r.window }
+penOf r = record { position = r.position; colour = r.colour; pattern = r.pattern; mode = r.mode; window = r.window }
 
 -- what lies past the last return stacked is no part of it
 abbrev pub flowOf : Registers → List WordIndex → Flow

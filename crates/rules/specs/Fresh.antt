@@ -5,6 +5,7 @@ use mathlib.Core.Bool.{cond}
 use mathlib.Core.List.{[]}
 use lib.ListN.{replicate}
 use lib.IntN.{pos}
+use Rattle.lines.specs.Dashes.{solid}
 use Rattle.rules.specs.Types.{Bounds, Dot, Window, Running}
 use Rattle.rules.specs.declared.answer.Made as Came
 use Rattle.rules.specs.Environment.{Env, env, start, held}
@@ -18,22 +19,22 @@ abbrev pub corner : ℕ → ℕ → Window
 corner x y = record { x0 = pos 0; y0 = pos 0; x1 = pos x; y1 = pos y }
 
 -- variables 0, position (0, 0), compared values 0 and 0, counter 0, stack empty, running
-abbrev pub blank : Bounds → ℕ → Window → Env
-blank b colour w =
+abbrev pub blank : Bounds → ℕ → ℕ → Window → Env
+blank b colour pattern w =
     env b (replicate 64 0)
-    (record { position = origin; colour = colour; mode = 0; window = w })
+    (record { position = origin; colour = colour; pattern = pattern; mode = 0; window = w })
     (record { counter = start; stack = []; first = 0; second = 0 })
     Running
 
--- colour 15, clip mode 0, clip window the whole screen
+-- colour 15, a line pattern of all ones, clip mode 0, clip window the whole screen
 abbrev pub fresh : Bounds → Env
-fresh b = blank b 15 (corner (b .width - 1) (b .height - 1))
+fresh b = blank b 15 solid (corner (b .width - 1) (b .height - 1))
 
 abbrev pub nowhere : Bounds
 nowhere = record { width = 0; height = 0; pane = record { left = 0; top = 0; right = 0; bottom = 0 } }
 
 abbrev pub zeros : Env
-zeros = blank nowhere 0 (corner 0 0)
+zeros = blank nowhere 0 0 (corner 0 0)
 
 pub record Made : Type 0 where
   pub number : ℕ

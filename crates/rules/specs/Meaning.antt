@@ -1,4 +1,4 @@
--- Document 01, 'Opcodes of the base', and document 02, T-01: what each opcode does and where its operands come from. The comments are the paper's names with their operands.
+-- Document 01, 'Opcodes of the base', and document 02, T-01 and T-03: what each opcode does and where its operands come from. The comments are the paper's names with their operands.
 use mathlib.Core.List.{[], _∷_}
 use Rattle.rules.specs.declared.opcode.FlowForm.{FlowForm}
 use Rattle.rules.specs.declared.opcode.FlowForm.the-variants as Flows
@@ -53,6 +53,8 @@ pen Pens.Clipwin = Known Op.ClipWindow (plain 4)  -- CLIPWIN x0 y0 x1 y1
 pen Pens.Clipwinv = Known Op.ClipWindow (from 4 ∷ [])  -- CLIPWINV Vi
 pen Pens.Colorf = Known Op.Colour (long ∷ [])  -- COLORF long
 pen Pens.Colorfv = Known Op.Colour (from 1 ∷ [])  -- COLORFV V
+pen Pens.Linepatn = Known Op.Pattern (long ∷ [])  -- LINEPATN long
+pen Pens.Linepatnv = Known Op.Pattern (from 1 ∷ [])  -- LINEPATNV V
 pen Pens.Moveto = Known Op.MoveTo (plain 2)  -- MOVETO x y
 pen Pens.Movetov = Known Op.MoveTo (from 2 ∷ [])  -- MOVETOV Vi
 pen Pens.Movetor = Known Op.MoveBy (plain 2)  -- MOVETOR dx dy

@@ -20,6 +20,7 @@ pub data Op : Type 0 where
   ClipMode : Op
   ClipWindow : Op
   Colour : Op
+  Pattern : Op
   MoveTo : Op
   MoveBy : Op
   Pixel : Op

@@ -1,4 +1,4 @@
--- Document 01, 'Opcodes of the base', and document 02, T-01: what each op does, one clause an op. A clause finds the counter at the next opcode.
+-- Document 01, 'Opcodes of the base', and document 02, T-01 and T-03: what each op does, one clause an op. A clause finds the counter at the next opcode.
 use Prim.Native.Nat.{ℕ}
 use mathlib.Core.Bool.{Bool, true, false, cond, not, _&&_, _||_}
 use lib.ListN.{length}
@@ -10,11 +10,12 @@ use Rattle.numbers.specs.Coordinate.{inWord, isRadius}
 use Rattle.numbers.specs.Place.{wordOf, indexOf}
 use Rattle.raster.specs.Shapes.{Shape, dot, all}
 use Rattle.lines.specs.Line.{line}
+use Rattle.lines.specs.Dashes.{dashed}
 use Rattle.circles.specs.Circle.{disc, outline}
-use Rattle.rules.specs.Types.{Target, At, Refused, Dot, Window, Circle, Operands, Ended}
+use Rattle.rules.specs.Types.{Target, At, Refused, Dot, Window, Line, Circle, Operands, Ended}
 use Rattle.rules.specs.Op as Op
 use Rattle.rules.specs.Operands.{at}
-use Rattle.rules.specs.Environment.{Env, put, moved, coloured, clipped, windowed, compared, goto, stated, pushed, popped, top}
+use Rattle.rules.specs.Environment.{Env, put, moved, coloured, patterned, clipped, windowed, compared, goto, stated, pushed, popped, top}
 use Rattle.rules.specs.Conditions.{allowed, met}
 
 -- ---- what an op says: which of 24 to 29 it breaks, the environment after it, which dots it paints and in which colour
@@ -95,20 +96,24 @@ window p q = record { x0 = p.x; y0 = p.y; x1 = q.x; y1 = q.y }
 abbrev pub dots : Dot → ℕ → Env → Rule
 dots p c e = refuse 25 (far p) (paints (dot p) c e)
 
--- lines and circles are drawn in type 0 only
-abbrev pub otherType : ℕ → Bool
-otherType type = ltb 0 type
+-- a type above the last one that is drawn: lines have types 0 and 1, circles type 0 alone
+abbrev pub otherType : ℕ → ℕ → Bool
+otherType last type = ltb last type
+
+-- a line's dots: in type 0 all of them, in type 1 those that the pattern paints
+abbrev pub typed : ℕ → Env → Line → Shape
+typed type e l = cond (eqb type 0) (line l) (dashed (e .pen .pattern) l)
 
 -- a line from p to q; `out`: a coordinate or offset is outside
 abbrev pub draws : ℕ → Bool → Dot → Dot → Env → Rule
-draws type out p q e = refuse 24 (otherType type) (refuse 25 out (paints (line (record { from = p; to = q })) (e .pen .colour) e))
+draws type out p q e = refuse 24 (otherType 1 type) (refuse 25 out (paints (typed type e (record { from = p; to = q })) (e .pen .colour) e))
 
 -- a circle of the shape S in the foreground colour; a: its type; b, c: its centre; d: its radius
 abbrev pub circles : (Circle → Shape) → Operands → Env → Rule
 circles S o e =
     let p = point o.b o.c in
     let r = signed32 o.d in
-    refuse 24 (otherType o.a) (refuse 25 (far p || not (isRadius r)) (paints (S (record { centre = p; radius = r })) (e .pen .colour) e))
+    refuse 24 (otherType 0 o.a) (refuse 25 (far p || not (isRadius r)) (paints (S (record { centre = p; radius = r })) (e .pen .colour) e))
 
 -- ---- each op, in a list of n words
 abbrev pub rule : Op.Op → Operands → ℕ → Env → Rule
@@ -135,6 +140,7 @@ rule Op.ClipWindow o n e =
     let q = point o.c o.d in
     refuse 25 (far p || far q) (leaves (windowed (window p q) e))
 rule Op.Colour o n e = leaves (coloured (low8 o.a) e)
+rule Op.Pattern o n e = leaves (patterned o.a e)
 rule Op.MoveTo o n e = let p = point o.a o.b in refuse 25 (far p) (leaves (moved p e))
 rule Op.MoveBy o n e =
     let d = point o.a o.b in

@@ -1,4 +1,4 @@
--- Document 01, 'Opcodes of the base', and document 02, T-01: every opcode's number, in order. The numbers are theirs, RTRN's is that of 004's alphabetical list.
+-- Document 01, 'Opcodes of the base', and document 02, T-01 and T-03: every opcode's number, in order. The numbers are theirs, RTRN's is that of 004's alphabetical list.
 use Prim.Native.Nat.{ℕ}
 use mathlib.Core.Bool.{cond}
 use mathlib.Core.List.{List, [], _∷_}
@@ -47,6 +47,8 @@ table =
     row 0x0071 (Value Values.Ldvv) ∷
     row 0x0074 (Paint Paints.Line) ∷
     row 0x0075 (Paint Paints.Linev) ∷
+    row 0x0078 (Pen Pens.Linepatn) ∷
+    row 0x0079 (Pen Pens.Linepatnv) ∷
     row 0x007C (Paint Paints.Lineto) ∷
     row 0x007D (Paint Paints.Linetov) ∷
     row 0x007E (Paint Paints.Linetor) ∷

@@ -8,6 +8,7 @@ pub use Rattle.raster.specs.declared.frame.Bounds.{Bounds}
 pub use Rattle.raster.specs.declared.frame.Window.{Window}
 pub use Rattle.raster.specs.declared.frame.Frame.{Frame}
 pub use Rattle.raster.specs.declared.dots.Dot.{Dot}
+pub use Rattle.lines.specs.declared.line.Line.{Line}
 pub use Rattle.circles.specs.declared.circle.Circle.{Circle}
 pub use Rattle.player.specs.declared.Verdict.{Verdict}
 pub use Rattle.player.specs.declared.State.{State}

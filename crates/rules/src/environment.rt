@@ -9,14 +9,15 @@ ghost use mathlib.Core.Path.{_≡_};
 ghost use Rattle.player.specs.Player.{fault};
 ghost use Rattle.rules.specs.Environment.{carries0, stateOf};
 
-// What opcodes change beside the two arrays. The two values last compared are 32 bits each, the depth counts the stacked
-// returns, and the state is 0 running, 1 ended, 20 to 29 stopped with that number. The place is that of the refusal, and 0 in
+// What opcodes change beside the two arrays. The line pattern and the two values last compared are 32 bits each, the depth
+// counts the stacked returns, and the state is 0 running, 1 ended, 20 to 29 stopped with that number. The place is that of the refusal, and 0 in
 // an environment that is not stopped.
 #[repr(C)]
 pub struct Registers {
     pub position: Dot,
     pub window: Window,
     pub mode: u32,
+    pub pattern: u32,
     pub first: u32,
     pub second: u32,
     pub counter: WordIndex,

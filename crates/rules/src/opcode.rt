@@ -1,4 +1,4 @@
-// Document 01, 'Opcodes of the base', and document 02, T-01: the opcodes by their names on the paper, and what was read behind one.
+// Document 01, 'Opcodes of the base', and document 02, T-01 and T-03: the opcodes by their names on the paper, and what was read behind one.
 use numbers::place::VarNo;
 
 // Those that go elsewhere, end or do nothing,
@@ -42,6 +42,8 @@ pub enum PenForm {
     Clipwinv,
     Colorf,
     Colorfv,
+    Linepatn,
+    Linepatnv,
     Moveto,
     Movetov,
     Movetor,
