@@ -12,7 +12,7 @@ use Rattle.raster.specs.declared.dots.Dot.{Dot}
 use Rattle.raster.specs.declared.frame.Window.{Window}
 use Rattle.brush.proofs.Spelt.{one-by-one}
 use Rattle.brush.proofs.Brushes.{byte}
-use Rattle.rules.specs.Environment.{start, goto, compared, clipped, coloured, stated, moved, windowed, stateOf}
+use Rattle.rules.specs.Environment.{start, goto, compared, clipped, coloured, patterned, stated, moved, windowed, stateOf}
 use Rattle.act.specs.Lent.{numbers, indexed, CellsFull, PointsFull, Recelled, Repointed, Deepened}
 
 module _ (cs : List ℕ) (l : CellsFull cs) where
@@ -32,6 +32,9 @@ module _ (cs : List ℕ) (l : CellsFull cs) where
   pub colour-set : (n : ℕ) → n < 256 → Recelled (coloured n) cs (set cs 5 n)
   colour-set n h =
       one-by-one 0 (λ cs. Recelled (coloured n) cs (set cs 5 n)) cs l (record { full = refl; shows = λ b ps vs st. rw (byte n h) })
+
+  pub pattern-set : (n : ℕ) → Recelled (patterned n) cs (set cs 8 n)
+  pattern-set n = one-by-one 0 (λ cs. Recelled (patterned n) cs (set cs 8 n)) cs l (record { full = refl; shows = λ b ps vs st. refl })
 
   pub state-set : (v : Verdict) → v .number < 256 → Recelled (stated (stateOf v)) cs (set (set cs 6 (v .number)) 7 (v .place .0))
   state-set v h =

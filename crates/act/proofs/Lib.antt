@@ -5,5 +5,6 @@ pub mod Handing
 pub mod ValueLaws
 pub mod ConditionLaws
 pub mod PointLaws
+pub mod PatternLaws
 pub mod JumpLaws
 pub mod CallLaws

@@ -13,7 +13,7 @@ use Rattle.rules.specs.Operands.{at}
 
 -- as many as there are
 abbrev pub CellsFull : List ℕ → Type 0
-CellsFull cs = length cs ≡ 8
+CellsFull cs = length cs ≡ 9
 
 abbrev pub PointsFull : List ℤ → Type 0
 PointsFull ps = length ps ≡ 6
@@ -29,6 +29,7 @@ registers cs ps =
       position = record { x = coordinate ps 0; y = coordinate ps 1 };
       window = record { x0 = coordinate ps 2; y0 = coordinate ps 3; x1 = coordinate ps 4; y1 = coordinate ps 5 };
       mode = at cs 4;
+      pattern = at cs 8;
       first = at cs 1;
       second = at cs 2;
       counter = record { 0 = at cs 0 };

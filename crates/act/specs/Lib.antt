@@ -6,3 +6,4 @@ pub mod Conditions
 pub mod Aims
 pub mod Calculations
 pub mod Point
+pub mod Pattern

@@ -8,6 +8,7 @@ use crate::registers::Cells;
 use crate::registers::Points;
 use crate::registers::colour;
 use crate::registers::finish_painting;
+use crate::registers::pattern;
 use crate::registers::position;
 use crate::registers::refuse;
 use crate::registers::set_position;
@@ -18,19 +19,22 @@ use brush::hold_circle;
 use brush::hold_dot;
 use brush::hold_line;
 use fetch::source::Taken;
+use lines::line::Line;
+use lines::line::SOLID;
 use numbers::place::WordIndex;
 use numbers::value::low8;
 use player::Upshot;
 use raster::dots::Dot;
-use lines::line::Line;
 ghost use mathlib.Core.Path.{_≡_};
 ghost use Prim.Native.Nat.{ℕ};
-ghost use Rattle.lines.specs.Line as Lines;
+ghost use Rattle.lines.specs.Dashes.{dashed};
 ghost use Rattle.circles.specs.Circle as Circles;
 ghost use Rattle.rules.specs.Environment.{moved};
 ghost use Rattle.rules.specs.Op as Op;
 ghost use Rattle.rules.specs.Opcodes as Opcodes;
 ghost use Rattle.rules.specs.Opcodes.{dots, paints, rule};
+ghost use Rattle.act.specs.Lent.{celled};
+ghost use Rattle.act.specs.Pattern.{patternOf};
 ghost use Rattle.act.specs.Shown.{does, answers};
 ghost use Rattle.act.specs.Contracts.{Paints, Draws, Handed, Drawable, Coords};
 
@@ -80,11 +84,18 @@ pub fn pixel_colour(t: Taken, cells: &mut Cells, brush: &mut Brush) -> Upshot
     }
 }
 
-// Lines and circles are drawn in type 0 only.
-fn other_type(given: u32) -> bool
-    ensures { λ r. ⌜ r ≡ Opcodes.otherType given ⌝ }
+// A type above the last one that is drawn.
+fn other_type(last: u32, given: u32) -> bool
+    ensures { λ r. ⌜ r ≡ Opcodes.otherType last given ⌝ }
 {
-    0 < given
+    last < given
+}
+
+// What a line of that type is drawn with: all ones in type 0, else the pattern.
+fn line_pattern(given: u32, cells: &Cells) -> u32
+    ensures { λ r. ⌜ r ≡ patternOf given (celled (now (cells .entry)) .pattern) ⌝ }
+{
+    if given == 0 { SOLID } else { pattern(cells) }
 }
 
 // A line in the foreground colour. a: its type; b, c: x0 and y0; d, e: x1 and y1.
@@ -97,7 +108,7 @@ pub fn line(t: Taken, cells: &mut Cells, brush: &mut Brush) -> Upshot
     match t {
         Taken::Refused(n, i) => stop(cells, n, i),
         Taken::Got(o, next) => {
-            if other_type(o.a) {
+            if other_type(1, o.a) {
                 return refuse(cells, 24);
             }
             let Point::At(p) = point_of(o.b, o.c) else {
@@ -106,15 +117,17 @@ pub fn line(t: Taken, cells: &mut Cells, brush: &mut Brush) -> Upshot
             let Point::At(q) = point_of(o.d, o.e) else {
                 return refuse(cells, 25);
             };
-            hold_line(brush, Line { from: p, to: q }, colour(&*cells));
+            let bits = line_pattern(o.a, &*cells);
+            hold_line(brush, Line { from: p, to: q }, bits, colour(&*cells));
             finish_painting(cells, next)
         }
     }
 }
 
-// A line from the position to q, and the position there.
+// A line from the position to q, as far as a pattern paints it, and the position there.
 fn draw_to(
     q: Dot,
+    pattern: u32,
     next: WordIndex,
     cells: &mut Cells,
     points: &mut Points,
@@ -122,11 +135,11 @@ fn draw_to(
 ) -> Upshot
     requires { ⌜ Drawable (now cells) (now points) (now brush) × Coords q ⌝ }
     ensures { λ r.
-        ⌜ Draws r (does (λ e. paints (Lines.line (record { from = e .pen .position; to = q })) (e .pen .colour) (moved q e)) next)
+        ⌜ Draws r (does (λ e. paints (dashed pattern (record { from = e .pen .position; to = q })) (e .pen .colour) (moved q e)) next)
         (now (cells .entry)) (now (cells .exit)) (now (points .entry)) (now (points .exit)) (now (brush .exit)) ⌝ }
 {
     let here = position(&*points);
-    hold_line(brush, Line { from: here, to: q }, colour(&*cells));
+    hold_line(brush, Line { from: here, to: q }, pattern, colour(&*cells));
     set_position(points, q);
     finish_painting(cells, next)
 }
@@ -141,13 +154,14 @@ pub fn line_to(t: Taken, cells: &mut Cells, points: &mut Points, brush: &mut Bru
     match t {
         Taken::Refused(n, i) => stop(cells, n, i),
         Taken::Got(o, next) => {
-            if other_type(o.a) {
+            if other_type(1, o.a) {
                 return refuse(cells, 24);
             }
             let Point::At(q) = point_of(o.b, o.c) else {
                 return refuse(cells, 25);
             };
-            draw_to(q, next, cells, points, brush)
+            let bits = line_pattern(o.a, &*cells);
+            draw_to(q, bits, next, cells, points, brush)
         }
     }
 }
@@ -162,14 +176,15 @@ pub fn line_by(t: Taken, cells: &mut Cells, points: &mut Points, brush: &mut Bru
     match t {
         Taken::Refused(n, i) => stop(cells, n, i),
         Taken::Got(o, next) => {
-            if other_type(o.a) {
+            if other_type(1, o.a) {
                 return refuse(cells, 24);
             }
             let here = position(&*points);
             let Point::At(q) = point_by(here, o.b, o.c) else {
                 return refuse(cells, 25);
             };
-            draw_to(q, next, cells, points, brush)
+            let bits = line_pattern(o.a, &*cells);
+            draw_to(q, bits, next, cells, points, brush)
         }
     }
 }
@@ -184,7 +199,7 @@ pub fn circle(t: Taken, filled: bool, cells: &mut Cells, brush: &mut Brush) -> U
     match t {
         Taken::Refused(n, i) => stop(cells, n, i),
         Taken::Got(o, next) => {
-            if other_type(o.a) {
+            if other_type(0, o.a) {
                 return refuse(cells, 24);
             }
             let Round::At(k) = circle_of(o.b, o.c, o.d) else {

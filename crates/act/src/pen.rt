@@ -1,4 +1,4 @@
-// Clip mode and window, colour, position.
+// Clip mode and window, colour, line pattern, position.
 use crate::point::Point;
 use crate::point::point_by;
 use crate::point::point_of;
@@ -9,6 +9,7 @@ use crate::registers::position;
 use crate::registers::refuse;
 use crate::registers::set_colour;
 use crate::registers::set_mode;
+use crate::registers::set_pattern;
 use crate::registers::set_position;
 use crate::registers::set_window;
 use crate::registers::stop;
@@ -86,6 +87,20 @@ pub fn colour(t: Taken, cells: &mut Cells) -> Upshot
         Taken::Refused(n, i) => stop(cells, n, i),
         Taken::Got(o, next) => {
             set_colour(cells, low8(o.a));
+            finish(cells, next)
+        }
+    }
+}
+
+// a: the pattern's 32 bits.
+pub fn pattern(t: Taken, cells: &mut Cells) -> Upshot
+    requires { ⌜ CellsFull (now cells) ⌝ }
+    ensures { λ q. ⌜ ((n : ℕ) → Goes q (answers t (λ o. rule Op.Pattern o n)) (now (cells .entry)) (now (cells .exit))) ⌝ }
+{
+    match t {
+        Taken::Refused(n, i) => stop(cells, n, i),
+        Taken::Got(o, next) => {
+            set_pattern(cells, o.a);
             finish(cells, next)
         }
     }

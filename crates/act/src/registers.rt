@@ -15,13 +15,13 @@ ghost use Prim.Native.Nat.{ℕ};
 ghost use Rattle.player.specs.declared.State.the-variants.{Ended};
 ghost use Rattle.player.specs.Player.{fault};
 ghost use Rattle.rules.specs.Environment as Environment;
-ghost use Rattle.rules.specs.Environment.{goto, compared, clipped, coloured, stated, moved, windowed, stateOf};
+ghost use Rattle.rules.specs.Environment.{goto, compared, clipped, coloured, patterned, stated, moved, windowed, stateOf};
 ghost use Rattle.act.specs.Lent as Lent;
 ghost use Rattle.act.specs.Lent.{registers, celled, pointed, look, CellsFull, PointsFull, Recelled, Repointed, Deepened};
 ghost use Rattle.act.specs.Contracts.{Halts, HaltsHere};
 
 // Numbers, each at the place where the functions below read it.
-pub type Cells = [u32; 8];
+pub type Cells = [u32; 9];
 
 // Coordinates: 0 and 1 position, 2 to 5 window.
 pub type Points = [i32; 6];
@@ -39,6 +39,7 @@ pub fn cells_of(r: Registers) -> Cells
         r.colour as u32,
         r.state as u32,
         r.place.0,
+        r.pattern,
     ]
 }
 
@@ -58,6 +59,7 @@ pub fn gathered(cells: &Cells, points: &Points) -> Registers
         position: position(points),
         window: window(points),
         mode: mode(cells),
+        pattern: pattern(cells),
         first: first(cells),
         second: second(cells),
         counter: counter(cells),
@@ -174,6 +176,19 @@ pub fn set_colour(cells: &mut Cells, c: u8)
     ensures { λ _. ⌜ Recelled (coloured c) (now (cells .entry)) (now (cells .exit)) ⌝ }
 {
     cells[5] = c as u32;
+}
+
+pub fn pattern(cells: &Cells) -> u32
+    ensures { λ r. ⌜ r ≡ celled (now (cells .entry)) .pattern ⌝ }
+{
+    cells[8]
+}
+
+pub fn set_pattern(cells: &mut Cells, n: u32)
+    requires { ⌜ CellsFull (now cells) ⌝ }
+    ensures { λ _. ⌜ Recelled (patterned n) (now (cells .entry)) (now (cells .exit)) ⌝ }
+{
+    cells[8] = n;
 }
 
 pub fn state(cells: &Cells) -> u8

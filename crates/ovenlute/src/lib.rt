@@ -1,4 +1,5 @@
 // Ovenlute's face: what the panel's firm links.
+use lines::line::SOLID;
 use numbers::place::WordIndex;
 use raster::dots::Dot;
 use raster::frame::Bounds;
@@ -20,9 +21,9 @@ ghost use Rattle.rules.specs.Fresh as Fresh;
 ghost use Rattle.wording.specs.Wording.{textOf, wordsOf};
 
 // Variables 0, position (0, 0), clip mode 0, window from the top left to (x, y), counter 0, stack empty, running.
-fn blank(bounds: Bounds, colour: u8, x: u32, y: u32) -> Env
+fn blank(bounds: Bounds, colour: u8, pattern: u32, x: u32, y: u32) -> Env
     requires { ⌜ (x ≤ 2048) × (y ≤ 2048) ⌝ }
-    ensures { λ e. ⌜ held e ≡ Fresh.blank bounds colour (Fresh.corner x y) ⌝ }
+    ensures { λ e. ⌜ held e ≡ Fresh.blank bounds colour pattern (Fresh.corner x y) ⌝ }
 {
     Env {
         bounds,
@@ -35,6 +36,7 @@ fn blank(bounds: Bounds, colour: u8, x: u32, y: u32) -> Env
                 y1: y as i32,
             },
             mode: 0,
+            pattern,
             first: 0,
             second: 0,
             counter: WordIndex(0),
@@ -62,7 +64,7 @@ fn zeros() -> Env
             bottom: 0,
         },
     };
-    blank(nowhere, 0, 0, 0)
+    blank(nowhere, 0, 0, 0, 0)
 }
 
 // A fresh environment: 0, or 10 for a bad size, 12 for a bad pane.
@@ -88,7 +90,7 @@ pub fn fresh(width: u32, height: u32, pane: Pane) -> Made
     }
     Made {
         number: 0,
-        env: blank(b, 15, width - 1, height - 1),
+        env: blank(b, 15, SOLID, width - 1, height - 1),
     }
 }
 

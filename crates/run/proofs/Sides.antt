@@ -66,6 +66,7 @@ holding e =
         position = e .pen .position;
         window = e .pen .window;
         mode = e .pen .mode;
+        pattern = e .pen .pattern;
         first = e .flow .first;
         second = e .flow .second;
         counter = e .flow .counter;

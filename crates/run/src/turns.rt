@@ -37,7 +37,7 @@ pub fn turns(
     }
     let mut steps: u32 = 0;
     while steps < budget {
-        let mut brush: Brush = [0; 6];
+        let mut brush: Brush = [0; 7];
         let upshot = step(words, cells, points, vars, stack, &mut brush);
         match upshot {
             Upshot::Quiet => {}

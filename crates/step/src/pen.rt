@@ -34,6 +34,8 @@ pub fn step(
         PenForm::Clipwinv => pen::clip_window(variables(words, pc, vars, 4), cells, points),
         PenForm::Colorf => pen::colour(long(words, pc), cells),
         PenForm::Colorfv => pen::colour(variables(words, pc, vars, 1), cells),
+        PenForm::Linepatn => pen::pattern(long(words, pc), cells),
+        PenForm::Linepatnv => pen::pattern(variables(words, pc, vars, 1), cells),
         PenForm::Moveto => pen::move_to(plain(words, pc, 2), cells, points),
         PenForm::Movetov => pen::move_to(variables(words, pc, vars, 2), cells, points),
         PenForm::Movetor => pen::move_by(plain(words, pc, 2), cells, points),

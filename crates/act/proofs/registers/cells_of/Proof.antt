@@ -10,7 +10,7 @@ returns : tie.Need-returns
 returns c =
     let r = c .before .before .args .r in
     let colour : r .colour < 256 = search needs in
-    let state : r .state < 256 = search needs in
+    let state : r .state < 256 = c .struct-known2 .given .1 .1 .1 .1 .1 .1 .1 .1 .1 .1 .0 .fits in
     record { full = refl; reads = rw (byte (r .colour) colour, byte (r .state) state) }
 
 pub cells-of-spec : {M : Type 1} → statement M

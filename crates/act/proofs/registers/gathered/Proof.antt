@@ -6,11 +6,13 @@ use Rattle.act.proofs.registers.gathered.Tie as tie
 returns : tie.Need-returns
 returns c =
     let counter = c .before .before .before .before in
-    let mode = counter .before .before .before in
+    let pattern = counter .before .before .before in
+    let mode = pattern .before in
     rw (
       mode .before .before .position .ensures,
       mode .before .window .ensures,
       mode .mode .ensures,
+      pattern .pattern .ensures,
       counter .before .before .first .ensures,
       counter .before .second .ensures,
       counter .counter .ensures,
@@ -25,5 +27,5 @@ gathered-spec =
     tie.close
     (tie.spec
     (λ c κs. search needs) (λ c κs. search needs) (λ c κs. search needs) (λ c κs. search needs) (λ c κs. search needs)
-    (λ c κs. search needs) (λ c κs. search needs) (λ c κs. search needs) (λ c κs. search needs) (λ c κs. search needs)
+    (λ c κs. search needs) (λ c κs. search needs) (λ c κs. search needs) (λ c κs. search needs) (λ c κs. search needs) (λ c κs. search needs)
     returns)
