@@ -42,6 +42,7 @@ fn print_bounds(bounds: Bounds) {
 fn print_registers(registers: Registers) {
     print_position(registers.position);
     count(b" colour ", registers.colour as usize);
+    unsigned(b" pattern ", registers.pattern);
     unsigned(b" mode ", registers.mode);
     print_window(registers.window);
     signed(b"compared ", registers.first);

@@ -13,7 +13,7 @@ use Rattle.desk.specs.declared.field.Found.the-variants.{Is, Nothing}
 use Rattle.desk.specs.declared.field.Bound.the-variants.{Width, Height, Left, Top, Right, Bottom}
 use Rattle.desk.specs.declared.field.Axis.the-variants.{X, Y}
 use Rattle.desk.specs.declared.field.Corner.the-variants.{X0, Y0, X1, Y1}
-use Rattle.desk.specs.declared.field.Register.the-variants.{Mode, First, Second, Counter, Depth, Place, Colour, State}
+use Rattle.desk.specs.declared.field.Register.the-variants.{Mode, Pattern, First, Second, Counter, Depth, Place, Colour, State}
 use Rattle.desk.specs.declared.field.Register as Name
 use Rattle.desk.specs.declared.field.Kind.{Kind}
 use Rattle.desk.specs.declared.field.Kind.the-variants.{Unsigned, Signed, Byte}
@@ -23,10 +23,10 @@ fields =
     Bound Width ∷ Bound Height ∷ Bound Left ∷ Bound Top ∷ Bound Right ∷ Bound Bottom
     ∷ Position X ∷ Position Y
     ∷ Corner X0 ∷ Corner Y0 ∷ Corner X1 ∷ Corner Y1
-    ∷ Register Mode ∷ Register First ∷ Register Second ∷ Register Counter ∷ Register Depth ∷ Register Place ∷ Register Colour ∷ Register State ∷ []
+    ∷ Register Mode ∷ Register Pattern ∷ Register First ∷ Register Second ∷ Register Counter ∷ Register Depth ∷ Register Place ∷ Register Colour ∷ Register State ∷ []
 
 unfoldable pub names : List (List ℕ)
-names = items (bytes "width height left top right bottom x y x0 y0 x1 y1 mode first second counter depth place colour state")
+names = items (bytes "width height left top right bottom x y x0 y0 x1 y1 mode pattern first second counter depth place colour state")
 
 unfoldable pub fieldOf : List ℕ → Found
 fieldOf name = getD (map Is fields) (placeIn name names) Nothing
@@ -34,6 +34,7 @@ fieldOf name = getD (map Is fields) (placeIn name names) Nothing
 -- two registers take a minus sign, and two are bytes
 abbrev pub kindOfRegister : Name.Register → Kind
 kindOfRegister Mode = Unsigned
+kindOfRegister Pattern = Unsigned
 kindOfRegister First = Signed
 kindOfRegister Second = Signed
 kindOfRegister Counter = Unsigned

@@ -30,7 +30,7 @@ use Rattle.desk.specs.declared.field.Axis.the-variants.{X, Y}
 use Rattle.desk.specs.declared.field.Corner.{Corner}
 use Rattle.desk.specs.declared.field.Corner.the-variants.{X0, Y0, X1, Y1}
 use Rattle.desk.specs.declared.field.Register.{Register}
-use Rattle.desk.specs.declared.field.Register.the-variants.{Mode, First, Second, Counter, Depth, Place, Colour, State}
+use Rattle.desk.specs.declared.field.Register.the-variants.{Mode, Pattern, First, Second, Counter, Depth, Place, Colour, State}
 use Rattle.desk.specs.Desks.{fine, wrong, withEnv}
 use Rattle.desk.specs.Faults.{faultOf}
 use Rattle.desk.specs.Fields.{fieldOf, kindOf, readAs}
@@ -63,26 +63,27 @@ withCorner Y0 z w = window w.x0 z w.x1 w.y1
 withCorner X1 z w = window w.x0 w.y0 z w.y1
 withCorner Y1 z w = window w.x0 w.y0 w.x1 z
 
-abbrev registers : Dot → Window → ℕ → ℕ → ℕ → WordIndex → ℕ → WordIndex → ℕ → ℕ → Registers
-registers p w m f s c d i k t =
-    record { position = p; window = w; mode = m; first = f; second = s; counter = c; depth = d; place = i; colour = k; state = t }
+abbrev registers : Dot → Window → ℕ → ℕ → ℕ → ℕ → WordIndex → ℕ → WordIndex → ℕ → ℕ → Registers
+registers p w m o f s c d i k t =
+    record { position = p; window = w; mode = m; pattern = o; first = f; second = s; counter = c; depth = d; place = i; colour = k; state = t }
 
 -- colour and state are bytes
 abbrev pub withRegister : Register → ℕ → Registers → Registers
-withRegister Mode n r = registers r.position r.window n r.first r.second r.counter r.depth r.place r.colour r.state
-withRegister First n r = registers r.position r.window r.mode n r.second r.counter r.depth r.place r.colour r.state
-withRegister Second n r = registers r.position r.window r.mode r.first n r.counter r.depth r.place r.colour r.state
-withRegister Counter n r = registers r.position r.window r.mode r.first r.second (record { 0 = n }) r.depth r.place r.colour r.state
-withRegister Depth n r = registers r.position r.window r.mode r.first r.second r.counter n r.place r.colour r.state
-withRegister Place n r = registers r.position r.window r.mode r.first r.second r.counter r.depth (record { 0 = n }) r.colour r.state
-withRegister Colour n r = registers r.position r.window r.mode r.first r.second r.counter r.depth r.place (n % 256) r.state
-withRegister State n r = registers r.position r.window r.mode r.first r.second r.counter r.depth r.place r.colour (n % 256)
+withRegister Mode n r = registers r.position r.window n r.pattern r.first r.second r.counter r.depth r.place r.colour r.state
+withRegister Pattern n r = registers r.position r.window r.mode n r.first r.second r.counter r.depth r.place r.colour r.state
+withRegister First n r = registers r.position r.window r.mode r.pattern n r.second r.counter r.depth r.place r.colour r.state
+withRegister Second n r = registers r.position r.window r.mode r.pattern r.first n r.counter r.depth r.place r.colour r.state
+withRegister Counter n r = registers r.position r.window r.mode r.pattern r.first r.second (record { 0 = n }) r.depth r.place r.colour r.state
+withRegister Depth n r = registers r.position r.window r.mode r.pattern r.first r.second r.counter n r.place r.colour r.state
+withRegister Place n r = registers r.position r.window r.mode r.pattern r.first r.second r.counter r.depth (record { 0 = n }) r.colour r.state
+withRegister Colour n r = registers r.position r.window r.mode r.pattern r.first r.second r.counter r.depth r.place (n % 256) r.state
+withRegister State n r = registers r.position r.window r.mode r.pattern r.first r.second r.counter r.depth r.place r.colour (n % 256)
 
 abbrev pub positioned : Dot → Registers → Registers
-positioned p r = registers p r.window r.mode r.first r.second r.counter r.depth r.place r.colour r.state
+positioned p r = registers p r.window r.mode r.pattern r.first r.second r.counter r.depth r.place r.colour r.state
 
 abbrev pub windowed : Window → Registers → Registers
-windowed w r = registers r.position w r.mode r.first r.second r.counter r.depth r.place r.colour r.state
+windowed w r = registers r.position w r.mode r.pattern r.first r.second r.counter r.depth r.place r.colour r.state
 
 -- ---- one field of the environment
 abbrev pub bounded : Bounds → Env → Env

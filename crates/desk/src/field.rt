@@ -43,6 +43,7 @@ pub enum Corner {
 
 pub enum Register {
     Mode,
+    Pattern,
     First,
     Second,
     Counter,
@@ -57,7 +58,7 @@ pub fn field_of(name: &[u8]) -> Found
     ensures { λ r. ⌜ r ≡ fieldOf (now (name .entry)) ⌝ }
 {
     let names =
-        b"width height left top right bottom x y x0 y0 x1 y1 mode first second counter depth place colour state";
+        b"width height left top right bottom x y x0 y0 x1 y1 mode pattern first second counter depth place colour state";
     match place_in(names, name) {
         0 => Found::Is(Field::Bound(Bound::Width)),
         1 => Found::Is(Field::Bound(Bound::Height)),
@@ -72,13 +73,14 @@ pub fn field_of(name: &[u8]) -> Found
         10 => Found::Is(Field::Corner(Corner::X1)),
         11 => Found::Is(Field::Corner(Corner::Y1)),
         12 => Found::Is(Field::Register(Register::Mode)),
-        13 => Found::Is(Field::Register(Register::First)),
-        14 => Found::Is(Field::Register(Register::Second)),
-        15 => Found::Is(Field::Register(Register::Counter)),
-        16 => Found::Is(Field::Register(Register::Depth)),
-        17 => Found::Is(Field::Register(Register::Place)),
-        18 => Found::Is(Field::Register(Register::Colour)),
-        19 => Found::Is(Field::Register(Register::State)),
+        13 => Found::Is(Field::Register(Register::Pattern)),
+        14 => Found::Is(Field::Register(Register::First)),
+        15 => Found::Is(Field::Register(Register::Second)),
+        16 => Found::Is(Field::Register(Register::Counter)),
+        17 => Found::Is(Field::Register(Register::Depth)),
+        18 => Found::Is(Field::Register(Register::Place)),
+        19 => Found::Is(Field::Register(Register::Colour)),
+        20 => Found::Is(Field::Register(Register::State)),
         _ => Found::Nothing,
     }
 }
@@ -106,6 +108,7 @@ fn kind_of_register(register: Register) -> Kind
 {
     match register {
         Register::Mode => Kind::Unsigned,
+        Register::Pattern => Kind::Unsigned,
         Register::First => Kind::Signed,
         Register::Second => Kind::Signed,
         Register::Counter => Kind::Unsigned,

@@ -192,6 +192,7 @@ fn with_register(registers: Registers, register: Register, bits: u32) -> Registe
     let byte = (bits % 256) as u8;
     match register {
         Register::Mode => after.mode = bits,
+        Register::Pattern => after.pattern = bits,
         Register::First => after.first = bits,
         Register::Second => after.second = bits,
         Register::Counter => after.counter = index,
