@@ -11,7 +11,7 @@ extern "C" {
 #endif
 
 /* Raised with every change of a struct below. An environment that was kept from another version is to be made anew. */
-#define OVENLUTE_VERSION 2
+#define OVENLUTE_VERSION 3
 
 /* The limits. */
 #define OVENLUTE_MOST_WORDS 65536     /* of a list */
@@ -71,6 +71,7 @@ struct ovenlute_registers {
     struct ovenlute_dot position;
     struct ovenlute_window window;
     uint32_t mode;          /* clip mode 0 to 2 */
+    uint32_t pattern;       /* which dots a line of type 1 paints, bit 0 for its first point; any 32 bits */
     int32_t first, second;  /* the two values last compared */
     uint32_t counter;       /* program counter: a word index, 0 to 65,536 */
     uint32_t depth;         /* returns stacked, 0 to 16 */
@@ -106,8 +107,8 @@ struct ovenlute_words {
    calls but what is lent. Lists that share a screen take turns. None allocates, and none needs more than 2 KiB of stack. */
 
 /* A fresh environment for a screen of that size and a pane in it: variables 0, position (0, 0), colour 15, clip mode 0, window
-   the whole screen, counter 0, running. Numbers: 0; 10 for a bad size; 12 for a bad pane, size first. With 10 and 12 env is all
-   zeros, and a run over it answers 10. */
+   the whole screen, pattern all ones, counter 0, running. Numbers: 0; 10 for a bad size; 12 for a bad pane, size first. With 10
+   and 12 env is all zeros, the pattern too, and a run over it answers 10. */
 struct ovenlute_made ovenlute_fresh(uint32_t width, uint32_t height, struct ovenlute_pane pane);
 
 /* Runs a list of 16-bit words on a screen of one byte a pixel, row by row from the top left, with the environment changed in
