@@ -1,6 +1,7 @@
 /*
- * AFGIS display lists by documents 01 and 02, in plain C. The sections follow 01's, with one for 02's circles; a sentence in
- * quotation marks is one of these papers' own. The condition numbers and RTRN's number come from document 004.
+ * AFGIS display lists by documents 01 and 02, in plain C. The sections follow 01's, with one for 02's circles and one for its
+ * line pattern; a sentence in quotation marks is one of these papers' own. The condition numbers and RTRN's number come from
+ * document 004.
  */
 
 #include "afgis.h"
@@ -124,6 +125,7 @@ int afgis_fresh(uint32_t width, uint32_t height, uint32_t left, uint32_t top, ui
         return BAD_FIELD;
     }
     env->colour = 15;
+    env->pattern = 0xFFFFFFFF;  /* "the pattern, all ones when fresh" */
     env->x1 = (int32_t)width - 1;
     env->y1 = (int32_t)height - 1;
     return 0;
@@ -167,8 +169,18 @@ static int64_t aside(int64_t k, int64_t difference, int64_t n)
     return n == 0 ? 0 : floor_of(2 * k * difference + n, 2 * n);
 }
 
-/* "Start from the end with the smaller coordinate on the long axis." */
-static void paint_line(struct machine *m, int32_t x0, int32_t y0, int32_t x1, int32_t y1)
+/* The types of a line: all of its dots, or those that the pattern has. */
+enum { SOLID = 0, DASHED = 1 };
+
+/* "Painted when bit k modulo 32 of the pattern is one, bit 0 lowest; zero bits paint nothing; each line starts at bit 0." */
+static int is_in_pattern(uint32_t pattern, int64_t dot)
+{
+    return (pattern >> dot % 32) % 2 == 1;
+}
+
+/* "Start from the end with the smaller coordinate on the long axis"; but dashes are "counted along the long axis from the first
+   point given". */
+static void paint_line(struct machine *m, int32_t type, int32_t x0, int32_t y0, int32_t x1, int32_t y1)
 {
     int64_t across = distance(x0, x1);
     int64_t down = distance(y0, y1);
@@ -181,9 +193,11 @@ static void paint_line(struct machine *m, int32_t x0, int32_t y0, int32_t x1, in
     int64_t end_y = starts_at_second ? y0 : y1;
 
     for (int64_t k = 0; k <= n; k++) {
-        int64_t dot_x = x + (x_is_long ? k : aside(k, end_x - x, n));
-        int64_t dot_y = y + (x_is_long ? aside(k, end_y - y, n) : k);
-        paint(m, (int32_t)dot_x, (int32_t)dot_y, m->env->colour);
+        int32_t dot_x = (int32_t)(x + (x_is_long ? k : aside(k, end_x - x, n)));
+        int32_t dot_y = (int32_t)(y + (x_is_long ? aside(k, end_y - y, n) : k));
+        int64_t number = x_is_long ? distance(x0, dot_x) : distance(y0, dot_y);
+        if (type == SOLID || is_in_pattern(m->env->pattern, number))
+            paint(m, dot_x, dot_y, m->env->colour);
     }
 }
 
@@ -672,14 +686,20 @@ static int pixel_colour_v(struct machine *m)
     return refusal != DONE ? refusal : draw_dot(m, 2, v[0], v[1], (uint32_t)v[2]);
 }
 
-/* "Only type 0. LINE leaves the position." */
+/* "For lines, type 1 is no longer 24." */
+static int is_line_type(int32_t type)
+{
+    return type == SOLID || type == DASHED;
+}
+
+/* "LINE leaves the position." */
 static int draw_line(struct machine *m, uint32_t length, int32_t type, int32_t x0, int32_t y0, int32_t x1, int32_t y1)
 {
-    if (type != 0)
+    if (!is_line_type(type))
         return NOT_ALLOWED;
     if (!fits_word(x0) || !fits_word(y0) || !fits_word(x1) || !fits_word(y1))
         return OUT_OF_RANGE;
-    paint_line(m, x0, y0, x1, y1);
+    paint_line(m, type, x0, y0, x1, y1);
     return done(m, length);
 }
 
@@ -697,7 +717,7 @@ static int draw_line_to(struct machine *m, uint32_t length, int32_t type, int32_
 
 static int draw_line_by(struct machine *m, uint32_t length, int32_t type, int32_t dx, int32_t dy)
 {
-    if (type != 0)
+    if (!is_line_type(type))
         return NOT_ALLOWED;
     if (!fits_word(dx) || !fits_word(dy))
         return OUT_OF_RANGE;
@@ -802,6 +822,27 @@ static int circle_v(struct machine *m, shape *belongs)
     return refusal != DONE ? refusal : draw_circle(m, 2, belongs, v[0], (struct circle){ v[1], v[2], v[3] });
 }
 
+/* ---- Opcodes of 02's T-03: the line pattern ---- */
+
+static int set_pattern(struct machine *m, uint32_t length, uint32_t pattern)
+{
+    m->env->pattern = pattern;
+    return done(m, length);
+}
+
+static int line_pattern(struct machine *m)
+{
+    return is_cut(m, 3) ? CUT : set_pattern(m, 3, long_at(m, 1));
+}
+
+static int line_pattern_v(struct machine *m)
+{
+    int32_t pattern;
+    int refusal = read_variables(m, 1, &pattern);
+
+    return refusal != DONE ? refusal : set_pattern(m, 2, (uint32_t)pattern);
+}
+
 /* ---- Opcodes of the base: "one decision over the opcode word" ---- */
 
 static int carry_out(struct machine *m)
@@ -837,6 +878,8 @@ static int carry_out(struct machine *m)
     case 0x0071: return variable_form(m, LOAD);      /* LDVV Vs Vd */
     case 0x0074: return line(m);                     /* LINE type x0 y0 x1 y1 */
     case 0x0075: return line_v(m);                   /* LINEV Vi */
+    case 0x0078: return line_pattern(m);             /* LINEPATN long */
+    case 0x0079: return line_pattern_v(m);           /* LINEPATNV V */
     case 0x007C: return line_to(m);                  /* LINETO type x y */
     case 0x007D: return line_to_v(m);                /* LINETOV Vi */
     case 0x007E: return line_to_relative(m);         /* LINETOR type dx dy */

@@ -13,6 +13,7 @@ struct afgis_env {
     int32_t x, y;                       /* the position, each -32,768 to 32,767 */
     uint8_t colour;                     /* the foreground colour */
     uint32_t mode;                      /* the clip mode, 0 to 2 */
+    uint32_t pattern;                   /* 02's T-03: the line pattern, bit 0 lowest */
     int32_t x0, y0, x1, y1;             /* the clip window, four signed words */
     int32_t first, second;              /* the two values last compared */
     uint32_t counter;                   /* the program counter, 0 to 65,536 */
