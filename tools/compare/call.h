@@ -2,6 +2,7 @@
 #ifndef CALL_H
 #define CALL_H
 
+#include "course.h"
 #include "env.h"
 
 enum { MOST_WORDS = 65536, MOST_STEPS = 1000000, MOST_SIDE = 2048 };
@@ -9,12 +10,13 @@ enum { MOST_WORDS = 65536, MOST_STEPS = 1000000, MOST_SIDE = 2048 };
 /* Room for lists and screens somewhat longer than any that is allowed. */
 enum { LIST_ROOM = MOST_WORDS + 64, SCREEN_ROOM = MOST_SIDE * MOST_SIDE + 4 * MOST_SIDE };
 
-/* Whatever is counted belongs to one of these groups. A call has at most one member of each, but for the last seven:
+/* Whatever is counted belongs to one of these groups. A call has at most one member of each, but for those from CLEARINGS on:
    those are counted for each CLRWIN, each line and each circle on its way. */
 enum group {
     CALLS, LISTS, ENVIRONMENTS, BROKEN_FIELDS, SIZES, PANES, WINDOWS, MODES, BUDGETS, SCREENS,
     DOOR_PAIRS, OPCODE_PAIRS, SLICED, SLICES, FRESH_CALLS, NUMBERS, PLACES, MISNAMED, CLEARINGS, LINES, HALVES, CUTS,
-    FILLED_CIRCLES, OUTLINES, REFUSED_CIRCLES,
+    DASH_OPCODES, DASH_PATTERNS, DASH_LENGTHS, DASHES_X_AHEAD, DASHES_X_BACK, DASHES_Y_AHEAD, DASHES_Y_BACK,
+    REFUSED_LINES, FILLED_CIRCLES, OUTLINES, REFUSED_CIRCLES,
     GROUPS
 };
 
@@ -22,7 +24,7 @@ enum { CALL_WHOLE, CALL_SLICE, CALL_LARGER, CALL_MIXED, CALL_ALONE, CALL_KINDS }
 
 enum {
     LIST_EMPTY, LIST_OPCODE_WORD, LIST_RANDOM, LIST_VALID, LIST_DAMAGED, LIST_LOOP, LIST_ENDLESS, LIST_CALLS,
-    LIST_LONGEST, LIST_TOO_LONG, LIST_PAST_32_BITS, LIST_TWO_REFUSALS, LIST_MISNAMED,
+    LIST_LINES, LIST_LONGEST, LIST_TOO_LONG, LIST_PAST_32_BITS, LIST_TWO_REFUSALS, LIST_MISNAMED,
     LIST_KINDS
 };
 
@@ -66,15 +68,29 @@ enum {
 
 enum { CLEARING_SCREEN, CLEARING_ROWS, CLEARING_PARTS, CLEARING_NO_COLUMN, CLEARING_NO_ROW, CLEARING_KINDS };
 
-/* The long axis, whether the line was drawn from the smaller coordinate on it or from the larger, and whether the other
-   one rises from there: each of the first four is followed by two more. */
-enum { LINE_X_AHEAD, LINE_X_BACK = 3, LINE_Y_AHEAD = 6, LINE_Y_BACK = 9, LINE_DOT = 12, LINE_KINDS };
-enum { LINE_RISING, LINE_LEVEL, LINE_FALLING };
+/* Whether a line's other coordinate rises from the smaller one on the long axis on: three kinds for each of its ways
+   (course.h), and behind them the line that is one dot. */
+enum { LINE_RISING, LINE_LEVEL, LINE_FALLING, LINE_SLOPES };
+enum { LINE_DOT = LINE_SLOPES * WAYS };
 enum { HALF_RISING, HALF_FALLING };
 
 /* Which dots of a line are not drawable: none, all, or those before its first drawable dot and those behind its last, where
    its place on the long axis is outside or on the other one. */
 enum { CUT_NOWHERE, CUT_TO_NOTHING, CUT_START_LONG, CUT_START_OTHER, CUT_END_LONG, CUT_END_OTHER };
+
+/* A line of type 1 that was drawn: by LINE or LINEV, or by one of the other four; and its pattern's bits. */
+enum { DASH_LINE, DASH_LINETO = 2 };
+enum { PATTERN_NONE, PATTERN_ALL, PATTERN_LOWEST, PATTERN_HIGHEST, PATTERN_OTHER };
+
+/* Which of its dots are drawable, for each of its ways: all, none, or not those at the first point given, or at the second;
+   whether the window takes more away than the pane does; and the number of the first that is, where it is not 0. */
+enum {
+    DASH_WHOLE, DASH_UNSEEN, DASH_CUT_AT_FIRST, DASH_CUT_AT_SECOND, DASH_CUT_BY_WINDOW, DASH_FROM_1, DASH_FROM_32,
+    DASH_FROM_ABOVE_32
+};
+
+/* What was wrong about a line: its type, or only its points. */
+enum { REFUSED_LINE_TYPE_2, REFUSED_LINE_TYPE_MINUS_1, REFUSED_LINE_LOW_WORD_1, REFUSED_DASH_POINT };
 
 /* A circle that was drawn: its radius; what of the filled one is drawable: all, a part, none, or every drawable dot; where some
    is, whether the window takes more away than the pane does, and whether the centre is more than 2,048 off the screen. */

@@ -1,6 +1,7 @@
 #include "area.h"
 #include "circles.h"
 #include "count.h"
+#include "dashes.h"
 #include "forms.h"
 #include "libc.h"
 #include "lines.h"
@@ -8,14 +9,17 @@
 
 enum { MOST_MEMBERS = 20, STEPS_FOLLOWED = 200 };
 
+#define DASH_PARTS { "whole", "outside", "cut at the first point", "cut at the second point", "cut by the window", \
+                     "seen from 1 to 31 on", "seen from 32 on", "seen from above 32 on" }
+
 static const struct {
     const char *title;
     const char *members[MOST_MEMBERS];
 } groups[GROUPS] = {
     [CALLS] = { "calls", { "whole", "slice", "larger budget", "two panes mixed", "one pane alone" } },
     [LISTS] = { "lists", { "empty", "each opcode word", "random words", "valid opcodes", "one word damaged", "loops",
-                           "endless loops", "calls near the limits", "longest", "too long", "2^32 words too long",
-                           "two refusals at once", "a variable above 63" } },
+                           "endless loops", "calls near the limits", "patterns and lines", "longest", "too long",
+                           "2^32 words too long", "two refusals at once", "a variable above 63" } },
     [ENVIRONMENTS] = { "environments", { "fresh", "mid-run", "continued", "stopped", "ended", "broken" } },
     [BROKEN_FIELDS] = { "broken fields", { "width", "height", "left", "top", "right", "bottom", "x", "y", "x0", "y0",
                                            "x1", "y1", "mode", "counter", "depth", "stack", "state", "place where stopped",
@@ -47,6 +51,14 @@ static const struct {
     [HALVES] = { "lines with a dot halfway", { "rising", "falling" } },
     [CUTS] = { "lines cut", { "nowhere", "to nothing", "at the start by the long axis", "at the start by the other",
                               "at the end by the long axis", "at the end by the other" } },
+    [DASH_OPCODES] = { "dashed lines", { "LINE", "LINEV", "LINETO", "LINETOV", "LINETOR", "LINETORV" } },
+    [DASH_PATTERNS] = { "dashed lines by pattern", { "00000000", "FFFFFFFF", "00000001", "80000000", "other" } },
+    [DASH_LENGTHS] = { "dashed lines by dots", { "1", "2", "31", "32", "33", "64", "65536" } },
+    [DASHES_X_AHEAD] = { "dashed lines, x ahead", DASH_PARTS },
+    [DASHES_X_BACK] = { "dashed lines, x back", DASH_PARTS },
+    [DASHES_Y_AHEAD] = { "dashed lines, y ahead", DASH_PARTS },
+    [DASHES_Y_BACK] = { "dashed lines, y back", DASH_PARTS },
+    [REFUSED_LINES] = { "lines refused", { "24 type 2", "24 type -1", "24 low word 1", "25 type 1" } },
     [FILLED_CIRCLES] = { "filled circles", { "radius 0", "radius 1", "radius 32767", "whole", "cut", "outside",
                                              "over all that is drawable", "cut by the window", "from far outside" } },
     [OUTLINES] = { "outlines", { "radius 0", "radius 1", "radius 32767", "whole", "cut", "outside",
@@ -130,6 +142,7 @@ static void count_forms(const struct call *call)
             count_form(call->list[before.counter], answer);
             count_clearing(call->list[before.counter], answer, &env);
             count_circle(call->list + before.counter, &before, answer);
+            count_dash(call->list + before.counter, &before, &env, answer);
         }
         if (answer.number == 23)
             count_misnamed(call->list + before.counter);

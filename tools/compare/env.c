@@ -21,6 +21,7 @@ static const struct {
     [WINDOW_X1] = { "x1", offsetof(struct ovenlute_env, registers.window.x1), SIGNED_32 },
     [WINDOW_Y1] = { "y1", offsetof(struct ovenlute_env, registers.window.y1), SIGNED_32 },
     [MODE] = { "mode", offsetof(struct ovenlute_env, registers.mode), UNSIGNED_32 },
+    [PATTERN] = { "pattern", offsetof(struct ovenlute_env, registers.pattern), UNSIGNED_32 },
     [FIRST] = { "first", offsetof(struct ovenlute_env, registers.first), SIGNED_32 },
     [SECOND] = { "second", offsetof(struct ovenlute_env, registers.second), SIGNED_32 },
     [COUNTER] = { "counter", offsetof(struct ovenlute_env, registers.counter), UNSIGNED_32 },
@@ -88,6 +89,7 @@ void fresh_env(struct ovenlute_env *env, uint32_t width, uint32_t height, struct
     env->registers.window.x1 = (int32_t)width - 1;
     env->registers.window.y1 = (int32_t)height - 1;
     env->registers.colour = 15;
+    env->registers.pattern = UINT32_MAX;
 }
 
 void to_reference(const struct ovenlute_env *from, struct afgis_env *to)
@@ -104,6 +106,7 @@ void to_reference(const struct ovenlute_env *from, struct afgis_env *to)
     to->y = registers->position.y;
     to->colour = registers->colour;
     to->mode = registers->mode;
+    to->pattern = registers->pattern;
     to->x0 = registers->window.x0;
     to->y0 = registers->window.y0;
     to->x1 = registers->window.x1;
@@ -132,6 +135,7 @@ void from_reference(const struct afgis_env *from, struct ovenlute_env *to)
     registers->position.y = from->y;
     registers->colour = from->colour;
     registers->mode = from->mode;
+    registers->pattern = from->pattern;
     registers->window.x0 = from->x0;
     registers->window.y0 = from->y0;
     registers->window.x1 = from->x1;

@@ -44,6 +44,12 @@ int32_t make_coordinate(uint32_t side, int is_far);
 /* A circle for a screen and a pane: often one whose edge is in the pane or close by. */
 struct circle make_circle(const struct ovenlute_bounds *bounds);
 
+/* A line for a screen and a pane: often one of a length that the pattern's 32 bits make special, whose dots cross the pane. */
+struct ends make_line(const struct ovenlute_bounds *bounds, int is_far);
+
+/* A line pattern: any, or one with a bit or none, all bits or every other one. */
+uint32_t make_pattern(void);
+
 /* A radius that isn't allowed; its low word may be. */
 int32_t bad_radius(void);
 

@@ -189,6 +189,7 @@ static void make_registers(struct call *call, int is_far)
     registers->window = make_window((int32_t)env->bounds.width, (int32_t)env->bounds.height, call->kinds[WINDOWS]);
     registers->mode = below(3);
     call->kinds[MODES] = (int)registers->mode;
+    registers->pattern = make_pattern();
     registers->position.x = make_coordinate(env->bounds.width, is_far);
     registers->position.y = make_coordinate(env->bounds.height, is_far);
     registers->first = one_in(4) ? edge_value() : between(-2, 2);

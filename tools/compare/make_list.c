@@ -21,6 +21,7 @@ struct sketch {
     struct target targets[MOST_TARGETS];
     size_t jumps;
     struct circle circle;  /* that the opcode draws, if it draws one */
+    struct ends line;      /* the same of a line */
 };
 
 /* ---- words ---- */
@@ -94,11 +95,27 @@ static int32_t make_value(const struct sketch *sketch, char letter)
     case 'm':
         return one_in(8) ? edge_value() : between(0, 3);
     case 't':
+        return one_in(12) ? edge_value() : between(0, 1);
+    case 'u':
         return one_in(12) ? edge_value() : 0;
+    case 'p':
+        return (int32_t)make_pattern();
     case 'x':
         return make_coordinate(bounds->width, sketch->is_far);
     case 'y':
         return make_coordinate(bounds->height, sketch->is_far);
+    case 'e':
+        return sketch->line.x0;
+    case 'f':
+        return sketch->line.y0;
+    case 'g':
+        return sketch->line.x1;
+    case 'j':
+        return sketch->line.y1;
+    case 's':
+        return one_in(8) ? make_offset(sketch) : sketch->line.x1 - sketch->line.x0;
+    case 'z':
+        return one_in(8) ? make_offset(sketch) : sketch->line.y1 - sketch->line.y0;
     case 'h':
         return sketch->circle.x;
     case 'k':
@@ -177,7 +194,7 @@ static void put_operand(struct sketch *sketch, char letter, uint16_t variable)
         put_target(sketch, ADDRESS);
     else if (letter == 'r')
         put_target(sketch, OFFSET_WORD);
-    else if (letter == 'l' || letter == 'o')
+    else if (letter == 'l' || letter == 'o' || letter == 'p')
         put_long(sketch, make_value(sketch, letter));
     else
         put_word(sketch, make_value(sketch, letter));
@@ -194,9 +211,17 @@ static void put_edge_loads(struct sketch *sketch, const uint16_t *variables)
         put_load(sketch, is_smallest_by_minus_one ? INT32_MIN : edge_value(), variables[1]);
 }
 
-static int draws_circle(const struct form *form)
+static int has(const struct form *form, char letter)
 {
-    return strchr(form->operands, 'q') || strchr(form->implied, 'q');
+    return strchr(form->operands, letter) || strchr(form->implied, letter);
+}
+
+/* The opcode draws from the position, and a MOVETO before it brings that to the line's first point. */
+static void put_first_point(struct sketch *sketch)
+{
+    put_opcode(sketch, 0x0082);
+    put_word(sketch, sketch->line.x0);
+    put_word(sketch, sketch->line.y0);
 }
 
 /* One opcode of this form, at times with its variables loaded before. */
@@ -207,8 +232,12 @@ static void put_form(struct sketch *sketch, const struct form *form)
     size_t earlier_jumps = sketch->jumps;
     int named = 0;
 
-    if (draws_circle(form))
+    if (has(form, 'q'))
         sketch->circle = make_circle(&sketch->call->env.bounds);
+    if (has(form, 't'))
+        sketch->line = make_line(&sketch->call->env.bounds, sketch->is_far);
+    if (has(form, 't') && !has(form, 'e') && one_in(2))
+        put_first_point(sketch);
     variables[0] = make_variable_number(implied > 0 ? implied : 1);
     variables[1] = make_variable_number(1);
     if (implied > 0 && variables[0] + implied <= VARIABLES && one_in(2))
@@ -435,6 +464,16 @@ static void put_calls(struct sketch *sketch)
     }
 }
 
+/* Patterns and lines by all their opcodes. */
+static void put_lines(struct sketch *sketch)
+{
+    static const uint16_t opcodes[] = { 0x0078, 0x0079, 0x0074, 0x0075, 0x007C, 0x007D, 0x007E, 0x007F };
+
+    for (uint32_t i = 2 + below(8); i > 0; i--)
+        put_named(sketch, opcodes[below(8)]);
+    put_end(sketch);
+}
+
 /* 65,536 words, or a few less: a jump to the opcodes at the very end. */
 static void put_longest(struct sketch *sketch)
 {
@@ -459,6 +498,7 @@ static int make_list_kind(void)
     static const int kinds[] = {
         LIST_VALID, LIST_VALID, LIST_VALID, LIST_VALID, LIST_VALID, LIST_VALID, LIST_VALID, LIST_DAMAGED,
         LIST_DAMAGED, LIST_DAMAGED, LIST_RANDOM, LIST_RANDOM, LIST_LOOP, LIST_LOOP, LIST_CALLS, LIST_CALLS,
+        LIST_LINES, LIST_LINES, LIST_LINES,
     };
 
     if (one_in(100))
@@ -490,6 +530,9 @@ static void put_list(struct sketch *sketch, int kind)
         break;
     case LIST_CALLS:
         put_calls(sketch);
+        break;
+    case LIST_LINES:
+        put_lines(sketch);
         break;
     default:
         put_longest(sketch);

@@ -11,9 +11,12 @@ static void put(struct call *call, int32_t word)
     call->list[call->words++] = (uint16_t)word;
 }
 
-static void put_one_of(struct call *call, const uint16_t *opcodes, uint32_t count)
+static uint16_t put_one_of(struct call *call, const uint16_t *opcodes, uint32_t count)
 {
-    put(call, opcodes[below(count)]);
+    uint16_t opcode = opcodes[below(count)];
+
+    put(call, opcode);
+    return opcode;
 }
 
 /* ---- what each refusal needs ---- */
@@ -25,11 +28,12 @@ static int32_t bad_variable(void)
     return numbers[below(6)];
 }
 
-static int32_t bad_type(void)
+/* Type 1 is a line's, and none of a circle's, whose opcodes are the lower ones. */
+static int32_t bad_type(uint16_t opcode)
 {
-    static const int32_t types[] = { 1, 2, 8, 255, 256, 32767, -1 };
+    static const int32_t types[] = { 2, 3, 8, 255, 256, 32767, -1 };
 
-    return types[below(7)];
+    return opcode < 0x0074 && one_in(4) ? 1 : types[below(7)];
 }
 
 static int32_t bad_condition(void)
@@ -104,8 +108,7 @@ static void make_22_24(struct call *call)
         put_one_of(call, jumps, 2);
         put(call, bad_condition());
     } else {
-        put_one_of(call, typed, 5);
-        put(call, bad_type());
+        put(call, bad_type(put_one_of(call, typed, 5)));
         put(call, between(-2, 9));
     }
 }
@@ -144,8 +147,7 @@ static void make_23_24(struct call *call)
 {
     int32_t number = between(62, 63);
 
-    call->env.variables[number] = bad_type();
-    put_one_of(call, typed_v_forms, 5);
+    call->env.variables[number] = bad_type(put_one_of(call, typed_v_forms, 5));
     put(call, number);
 }
 
@@ -189,15 +191,13 @@ static void make_circle_24_25(struct call *call)
     int32_t number = between(0, 60);
 
     if (one_in(2)) {
-        put_one_of(call, circles, 2);
-        put(call, bad_type());
+        put(call, bad_type(put_one_of(call, circles, 2)));
         put(call, between(-2, 9));
         put(call, between(-2, 9));
         put(call, between(-32768, -1));
     } else {
-        call->env.variables[number] = bad_type();
+        call->env.variables[number] = bad_type(put_one_of(call, circle_v_forms, 2));
         call->env.variables[number + 3] = bad_radius();
-        put_one_of(call, circle_v_forms, 2);
         put(call, number);
     }
 }
@@ -210,13 +210,12 @@ static void make_point_24_25(struct call *call)
     if (one_in(3)) {
         move_to_edge(call);
         put(call, 0x007E);
-        put(call, bad_type());
+        put(call, bad_type(0x007E));
         put(call, between(2, 32767));
         put(call, 0);
     } else {
-        call->env.variables[number] = bad_type();
+        call->env.variables[number] = bad_type(put_one_of(call, typed_v_forms, 5));
         call->env.variables[number + between(1, 2)] = bad_coordinate();
-        put_one_of(call, typed_v_forms, 5);
         put(call, number);
     }
 }

@@ -8,7 +8,7 @@ enum { LAST_VARIABLE = 63 };
 
 static int is_long(char operand)
 {
-    return operand == 'l' || operand == 'a' || operand == 'o';
+    return operand == 'l' || operand == 'a' || operand == 'o' || operand == 'p';
 }
 
 static int is_above(uint32_t number)
