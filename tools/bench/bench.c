@@ -1,6 +1,6 @@
 /*
  * How long the box takes against plain C for the same work: ratios of the best of some trials. "Plain C" is
- * plain.c (Bresenham, a test per dot; memset row by row; circles by the half width of each row), "reference" is
+ * plain.c (Bresenham, a test per dot, two of a dashed line; memset row by row; circles by the half width of each row), "reference" is
  * reference/afgis.c (a division and a test per dot; a test per pixel), "memset" is one memset over the whole screen.
  */
 
@@ -52,10 +52,11 @@ static void put(int32_t word)
     list[words++] = (uint16_t)word;
 }
 
-static void put_line(int32_t x0, int32_t y0, int32_t x1, int32_t y1)
+/* Solid, type 0, or dashed, type 1. */
+static void put_line(int32_t type, int32_t x0, int32_t y0, int32_t x1, int32_t y1)
 {
     put(0x0074);
-    put(0);
+    put(type);
     put(x0);
     put(y0);
     put(x1);
@@ -71,47 +72,98 @@ static void make_loop(void)
         put(loop[i]);
 }
 
-static void make_lines(void)
+static void put_pattern(uint32_t pattern)
+{
+    put(0x0078);
+    put((int32_t)(pattern % 65536));
+    put((int32_t)(pattern / 65536));
+}
+
+static void put_lines(int32_t type)
 {
     for (int i = 0; i < 1000; i++) {
         int32_t x0 = between(0, WIDTH - 1), y0 = between(0, HEIGHT - 1);
         int32_t x1 = between(0, WIDTH - 1), y1 = between(0, HEIGHT - 1);
-        put_line(x0, y0, x1, y1);
+        put_line(type, x0, y0, x1, y1);
+    }
+    put(0x0001);
+}
+
+static void make_lines(void)
+{
+    put_lines(0);
+}
+
+static void make_dashed_lines(void)
+{
+    put_pattern(0x00FF00FF);
+    put_lines(1);
+}
+
+static void put_short_lines(int32_t type)
+{
+    for (int i = 0; i < 10000; i++) {
+        int32_t x = between(8, WIDTH - 9), y = between(8, HEIGHT - 9);
+        int32_t dx = between(-7, 7), dy = between(-7, 7);
+        put_line(type, x, y, x + dx, y + dy);
     }
     put(0x0001);
 }
 
 static void make_short_lines(void)
 {
-    for (int i = 0; i < 10000; i++) {
-        int32_t x = between(8, WIDTH - 9), y = between(8, HEIGHT - 9);
-        int32_t dx = between(-7, 7), dy = between(-7, 7);
-        put_line(x, y, x + dx, y + dy);
+    put_short_lines(0);
+}
+
+static void make_short_dashed_lines(void)
+{
+    put_pattern(0x55555555);
+    put_short_lines(1);
+}
+
+static void put_far_lines(int32_t type)
+{
+    for (int i = 0; i < 200; i++) {
+        int32_t x0 = between(-32768, 32767), y0 = between(-32768, 32767);
+        int32_t x1 = between(-32768, 32767), y1 = between(-32768, 32767);
+        put_line(type, x0, y0, x1, y1);
     }
     put(0x0001);
 }
 
 static void make_far_lines(void)
 {
-    for (int i = 0; i < 200; i++) {
-        int32_t x0 = between(-32768, 32767), y0 = between(-32768, 32767);
-        int32_t x1 = between(-32768, 32767), y1 = between(-32768, 32767);
-        put_line(x0, y0, x1, y1);
-    }
-    put(0x0001);
+    put_far_lines(0);
+}
+
+static void make_far_dashed_lines(void)
+{
+    put_pattern(0x0F0F0F0F);
+    put_far_lines(1);
 }
 
 /* All x, and nearly all y, in either direction. */
-static void make_long_lines(void)
+static void put_long_lines(int32_t type)
 {
     for (int i = 0; i < 200; i++) {
         int32_t y0 = -32768 + between(0, 300), y1 = 32767 - between(0, 300);
         if (between(0, 1))
-            put_line(-32768, y0, 32767, y1);
+            put_line(type, -32768, y0, 32767, y1);
         else
-            put_line(32767, y1, -32768, y0);
+            put_line(type, 32767, y1, -32768, y0);
     }
     put(0x0001);
+}
+
+static void make_long_lines(void)
+{
+    put_long_lines(0);
+}
+
+static void make_long_dashed_lines(void)
+{
+    put_pattern(0x0F0F0F0F);
+    put_long_lines(1);
 }
 
 static void make_dots(void)
@@ -207,6 +259,10 @@ static const struct work works[] = {
     { "short lines, up to 8 dots", make_short_lines, WHOLE(WIDTH, HEIGHT), 10, 0, 0 },
     { "lines mostly outside the pane", make_far_lines, PANE(WIDTH, HEIGHT), 1, 0, 0 },
     { "lines of 65,536 dots through ten columns", make_long_lines, COLUMNS(WIDTH, HEIGHT), 1, 0, 0 },
+    { "dashed lines on the screen", make_dashed_lines, WHOLE(WIDTH, HEIGHT), 4, 0, 0 },
+    { "short dashed lines, up to 8 dots", make_short_dashed_lines, WHOLE(WIDTH, HEIGHT), 10, 0, 0 },
+    { "dashed lines mostly outside the pane", make_far_dashed_lines, PANE(WIDTH, HEIGHT), 1, 0, 0 },
+    { "dashed lines of 65,536 dots through ten columns", make_long_dashed_lines, COLUMNS(WIDTH, HEIGHT), 1, 0, 0 },
     { "single dots", make_dots, WHOLE(WIDTH, HEIGHT), 20, 0, 0 },
     { "discs of radius 3", make_discs_of_3, WHOLE(WIDTH, HEIGHT), 10, 0, 1 },
     { "discs of radius 40", make_discs_of_40, WHOLE(WIDTH, HEIGHT), 10, 0, 1 },

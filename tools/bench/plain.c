@@ -43,8 +43,9 @@ static inline void paint(const struct machine *m, struct area area, int32_t x, i
         m->screen[(uint32_t)y * m->env->width + (uint32_t)x] = colour;
 }
 
-/* Bresenham's way from the end with the smaller coordinate on the long axis: no division, a test per dot. */
-static void paint_line(const struct machine *m, int32_t x0, int32_t y0, int32_t x1, int32_t y1)
+/* Bresenham's way from the end with the smaller coordinate on the long axis: no division, a test per dot; where it is dashed,
+   one more of the pattern's bit, which is counted from the first point given. */
+static inline void walk_line(const struct machine *m, int is_dashed, int32_t x0, int32_t y0, int32_t x1, int32_t y1)
 {
     int32_t across = x0 < x1 ? x1 - x0 : x0 - x1;
     int32_t down = y0 < y1 ? y1 - y0 : y0 - y1;
@@ -57,11 +58,16 @@ static void paint_line(const struct machine *m, int32_t x0, int32_t y0, int32_t 
     int32_t long_side = x_is_long ? across : down;
     int32_t short_side = x_is_long ? down : across;
     int32_t error = falls ? long_side - 1 : long_side;
+    uint32_t number = is_turned ? (uint32_t)long_side : 0;
+    uint32_t next = is_turned ? UINT32_MAX : 1;
+    uint32_t pattern = m->env->pattern;
     uint8_t colour = m->env->colour;
     struct area area = drawable(m->env);
 
     for (int32_t k = 0; k <= long_side; k++) {
-        paint(m, area, x, y, colour);
+        if (!is_dashed || (pattern >> number % 32 & 1))
+            paint(m, area, x, y, colour);
+        number += next;
         error += 2 * short_side;
         if (error >= 2 * long_side) {
             error -= 2 * long_side;
@@ -71,6 +77,21 @@ static void paint_line(const struct machine *m, int32_t x0, int32_t y0, int32_t 
         x += x_is_long ? 1 : 0;
         y += x_is_long ? 0 : 1;
     }
+}
+
+/* A walk of its own for each type, so that neither asks for it at a dot. */
+static int paint_line(const struct machine *m, const uint16_t *word, uint32_t *counter)
+{
+    int32_t x0 = (int16_t)word[2], y0 = (int16_t)word[3], x1 = (int16_t)word[4], y1 = (int16_t)word[5];
+
+    if (word[1] > 1)
+        return 24;
+    if (word[1] == 0)
+        walk_line(m, 0, x0, y0, x1, y1);
+    else
+        walk_line(m, 1, x0, y0, x1, y1);
+    *counter += 6;
+    return 0;
 }
 
 static void clear(const struct machine *m, uint8_t colour)
@@ -240,12 +261,12 @@ static inline int carry_out(struct machine *m, uint32_t *counter)
         *counter += 2;
         return 0;
     case 0x0074:
-        if (left < 6)
+        return left < 6 ? 22 : paint_line(m, word, counter);
+    case 0x0078:
+        if (left < 3)
             return 22;
-        if (word[1] != 0)
-            return 24;
-        paint_line(m, (int16_t)word[2], (int16_t)word[3], (int16_t)word[4], (int16_t)word[5]);
-        *counter += 6;
+        env->pattern = (uint32_t)long_at(word + 1);
+        *counter += 3;
         return 0;
     case 0x009E:
         if (left < 3)
