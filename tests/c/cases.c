@@ -1,5 +1,5 @@
 /*
- * The fourteen cases of docs/RULES.md with their variants, requests T-01's and T-02's, a line that is mostly outside, places of
+ * The fourteen cases of docs/RULES.md with their variants, requests T-01's to T-03's, a line that is mostly outside, places of
  * refusals, the numbers 10 to 14, and what the header says of NULL and of its limits, through the C face of the box. Each answer
  * is checked whole: number, place, steps, every field of the environment, every byte.
  */
@@ -11,7 +11,7 @@ enum { WIDTH = 5, HEIGHT = 3, BYTES = WIDTH * HEIGHT, MOST_WORDS = 24, MOST_CHAN
 
 /* The fields that a case leaves other than fresh. */
 enum change {
-    NOTHING, VARIABLE, POSITION_X, POSITION_Y, COUNTER, DEPTH, STACKED, PLACE, MODE, COLOUR, FIRST, SECOND, STATE
+    NOTHING, VARIABLE, POSITION_X, POSITION_Y, COUNTER, DEPTH, STACKED, PLACE, MODE, PATTERN, COLOUR, FIRST, SECOND, STATE
 };
 
 struct changed {
@@ -81,6 +81,18 @@ static const struct test tests[] = {
     { "T-01, radius -1", 5, { 0x0014, 0x0000, 0x0000, 0x0000, 0xFFFF }, 100, WHOLE, 25, 0, { { STATE, 0, 25 } }, BLANK },
     { "T-02, a line that falls", 7, { 0x0074, 0x0000, 0x0000, 0x0002, 0x0004, 0x0000, 0x0001 }, 100, WHOLE, 0, 2,
       { { COUNTER, 0, 7 }, { STATE, 0, 1 } }, "....#" "..##." "##..." },
+    { "T-03, a fresh pattern", 7, { 0x0074, 0x0001, 0x0000, 0x0000, 0x0004, 0x0002, 0x0001 }, 100, WHOLE, 0, 2,
+      { { COUNTER, 0, 7 }, { STATE, 0, 1 } }, "#...." ".##.." "...##" },
+    { "T-03, a dashed line from either end", 16,
+      { 0x0078, 0x000B, 0x0000, 0x0074, 0x0001, 0x0000, 0x0000, 0x0004, 0x0000, 0x0074, 0x0001, 0x0004, 0x0002, 0x0000,
+        0x0002, 0x0001 },
+      100, WHOLE, 0, 4, { { PATTERN, 0, 11 }, { COUNTER, 0, 16 }, { STATE, 0, 1 } }, "##.#." "....." ".#.##" },
+    { "T-03, a dashed line in a pane", 10,
+      { 0x0078, 0x000B, 0x0000, 0x0074, 0x0001, 0x0000, 0x0000, 0x0004, 0x0002, 0x0001 }, 100, { 2, 0, 4, 2 }, 0, 3,
+      { { PATTERN, 0, 11 }, { COUNTER, 0, 10 }, { STATE, 0, 1 } }, "....." "....." "...#." },
+    { "T-03, type 2", 6, { 0x0074, 0x0002, 0x0000, 0x0000, 0x0004, 0x0002 }, 100, WHOLE, 24, 0, { { STATE, 0, 24 } }, BLANK },
+    { "T-03, LINEPATNV of V64", 3, { 0x0000, 0x0079, 0x0040 }, 100, WHOLE, 23, 1,
+      { { COUNTER, 0, 1 }, { PLACE, 0, 2 }, { STATE, 0, 23 } }, BLANK },
     { "all coordinates through two columns", 7, { 0x0074, 0x0000, 0x7FFF, 0x8003, 0x8003, 0x7FFF, 0x0001 }, 100,
       { 1, 0, 2, 2 }, 0, 2, { { COUNTER, 0, 7 }, { STATE, 0, 1 } }, "..#.." ".#..." "....." },
     { "9 as LINETO", 5, { 0x007C, 0x0000, 0x0004, 0x0002, 0x0001 }, 100, WHOLE, 0, 2,
@@ -125,7 +137,7 @@ static void check(const char *name, const char *wrong)
 
 /* ---- environments ---- */
 
-/* Document 01's fresh environment. */
+/* Document 01's fresh environment, with T-03's pattern. */
 static void fresh_env(struct ovenlute_env *env, struct ovenlute_pane pane)
 {
     memset(env, 0, sizeof *env);
@@ -135,6 +147,7 @@ static void fresh_env(struct ovenlute_env *env, struct ovenlute_pane pane)
     env->registers.window.x1 = WIDTH - 1;
     env->registers.window.y1 = HEIGHT - 1;
     env->registers.colour = 15;
+    env->registers.pattern = UINT32_MAX;
 }
 
 /* A stacked index -1 stands for all that are stacked. */
@@ -165,6 +178,9 @@ static void change_register(struct ovenlute_registers *registers, enum change wh
         break;
     case MODE:
         registers->mode = (uint32_t)value;
+        break;
+    case PATTERN:
+        registers->pattern = (uint32_t)value;
         break;
     case COLOUR:
         registers->colour = (uint8_t)value;
@@ -205,7 +221,7 @@ static int same_registers(const struct ovenlute_registers *a, const struct ovenl
     return a->position.x == b->position.x && a->position.y == b->position.y
         && a->window.x0 == b->window.x0 && a->window.y0 == b->window.y0
         && a->window.x1 == b->window.x1 && a->window.y1 == b->window.y1
-        && a->mode == b->mode && a->first == b->first && a->second == b->second
+        && a->mode == b->mode && a->pattern == b->pattern && a->first == b->first && a->second == b->second
         && a->counter == b->counter && a->depth == b->depth && a->place == b->place
         && a->colour == b->colour && a->state == b->state;
 }
@@ -360,6 +376,19 @@ static void check_door_calls(void)
     check_door("12, a place past the longest list", &stopped, 1, BYTES, 1, OVENLUTE_BAD_FIELD);
 }
 
+/* Any 32 bits are a pattern. */
+static void check_patterns(void)
+{
+    static const uint32_t patterns[] = { 0, 1, 0x80000000, UINT32_MAX };
+    struct ovenlute_env env;
+
+    fresh_env(&env, whole_pane);
+    for (size_t i = 0; i < sizeof patterns / sizeof patterns[0]; i++) {
+        env.registers.pattern = patterns[i];
+        check_door("any pattern", &env, 1, BYTES, 0, OVENLUTE_BUDGET);
+    }
+}
+
 /* Nothing is read or written through a pointer with length 0. */
 static void check_null(void)
 {
@@ -391,6 +420,7 @@ int main(void)
         run_test(&tests[i]);
     check_fresh_calls();
     check_door_calls();
+    check_patterns();
     check_null();
     check_limits();
     printf("%d cases, %d failed\n", checked, failed);
