@@ -1,7 +1,7 @@
--- What follows of dashes (request T-03): with a pattern of all ones they are the line, with none no dot; and the dots are counted from the first point given.
+-- What follows of dashes (request T-03): with a pattern of all ones they are the line, with none no dot, with any the line's; and the dots are counted from the first point given.
 use mathlib.Core.Path.{_≡_, refl, sym, ap, _∙_, subst}
 use mathlib.Core.Bool.{Bool, true, false, cond, _&&_}
-use Prim.Native.Nat.{ℕ, zero, suc, _+_, _-_, _/_, _%_, _^_, _<_, _≤_}
+use Prim.Native.Nat.{ℕ, zero, suc, _+_, _-_, _%_, _^_, _<_, _≤_}
 use native.Mathlib.Omega.{arith}
 use native.Mathlib.Decide.{decLt}
 use native.Mathlib.Nat.{mod-lt, zero-div}
@@ -10,7 +10,7 @@ use lib.Dec.{T, eqb}
 use Rattle.raster.specs.declared.dots.Dot.{Dot}
 use Rattle.raster.specs.Shapes.{gap, dot}
 use Rattle.raster.proofs.Tests.{left, right}
-use Rattle.raster.proofs.SomeBelow.{some-same, some-none}
+use Rattle.raster.proofs.SomeBelow.{some-same, some-none, some-intro, some-elim}
 use Rattle.lines.specs.declared.line.Line.{Line}
 use Rattle.lines.specs.Line.{long, flat, rising, start, finish, dotFrom, lineDot, line}
 use Rattle.lines.specs.Dashes.{bit, lit, numberOf, dashed, solid}
@@ -68,6 +68,14 @@ unfolding dashed
 no-ones l x y =
     some-none (suc (long l)) (λ k. lit 0 (numberOf l k) && dot (lineDot l k) x y)
     (λ k h. ap (λ (t : Bool). t && dot (lineDot l k) x y) (lit-none (numberOf l k)))
+
+-- ---- some
+-- whatever the pattern, the dots are the line's
+pub on-the-line : (o : ℕ) (l : Line) (x y : ℤ) → T (dashed o l x y) → T (line l x y)
+unfolding dashed line
+on-the-line o l x y t =
+    some-elim (suc (long l)) (λ k. lit o (numberOf l k) && dot (lineDot l k) x y) t
+    (λ k h u. some-intro (suc (long l)) k (λ k. dot (lineDot l k) x y) h (right (lit o (numberOf l k)) (dot (lineDot l k) x y) u))
 
 -- ---- counted along the long axis from the first point given
 -- the coordinate on the long axis, where t says that it is x

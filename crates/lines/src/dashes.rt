@@ -39,7 +39,7 @@ fn put(screen: &mut [u8], at: usize, painted: bool, c: u8)
     }
 }
 
-// As `walk`, but for the dots that the pattern does not paint.
+// As `walk`: the dots from dot first, whose slope is s, to dot last, of which the pattern may leave some out.
 pub fn dash(
     screen: &mut [u8],
     w: u32,

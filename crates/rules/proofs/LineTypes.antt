@@ -1,15 +1,17 @@
--- Request T-03: with a pattern of all ones a line of type 1 is a line of type 0, in the whole answer of each line opcode.
+-- Request T-03: with a pattern of all ones a line of type 1 is a line of type 0, in the whole answer of each line opcode; and what T-02 says is kept for type 0.
 use Prim.Native.Nat.{ℕ}
 use mathlib.Core.Path.{_≡_, ap, _∙_}
 use mathlib.Core.Bool.{Bool, _||_}
+use lib.IntN.{ℤ}
 use Rattle.lines.specs.Line.{line}
 use Rattle.lines.specs.Dashes.{dashed, solid}
+use Rattle.lines.proofs.Directions.{swap-ends}
 use Rattle.lines.proofs.Patterns.{solid-line}
 use Rattle.player.specs.Player.{Outcome}
 use Rattle.rules.specs.Types.{Dot, Line, Operands}
 use Rattle.rules.specs.Op as Op
 use Rattle.rules.specs.Environment.{Env, moved}
-use Rattle.rules.specs.Opcodes.{Rule, point, shifted, far, draws, rule}
+use Rattle.rules.specs.Opcodes.{Rule, point, shifted, far, typed, draws, rule}
 use Rattle.rules.specs.Step.{carried}
 
 -- operands with another type
@@ -42,3 +44,7 @@ module _ (o : Operands) (n : ℕ) (e e′ : Env) (h : e .pen .pattern ≡ solid)
       let d = point (o .b) (o .c) in
       let q = shifted (e .pen .position) d in
       ap (λ (r : Rule). carried r e′) (drawn-alike (far d || far q) (e .pen .position) q (moved q e) h)
+
+-- ---- T-02's statement is kept for type 0: swapping the ends gives the same dots
+pub swap-kept : (e : Env) (p q : Dot) (x y : ℤ) → typed 0 e (record { from = p; to = q }) x y ≡ typed 0 e (record { from = q; to = p }) x y
+swap-kept e p q x y = swap-ends p q x y
