@@ -12,13 +12,13 @@ use mir.Syntax.{w32}
 use mir.Val.{toZ, ofZ}
 use mir.Facts.{toZ-ofZ}
 use Rattle.raster.specs.declared.dots.Dot.{Dot}
-use Rattle.lines.specs.declared.line.Line.{Line}
 use Rattle.raster.specs.declared.biased.Spot.{Spot}
 use Rattle.raster.specs.Shapes.{dot, all}
-use Rattle.lines.specs.Dashes.{dashed}
-use Rattle.lines.specs.Courses.{lineOf}
 use Rattle.raster.specs.Frame.{Coord}
 use Rattle.raster.specs.Biased.{spotOf, dotOf, NearB}
+use Rattle.lines.specs.declared.line.Line.{Line}
+use Rattle.lines.specs.Dashes.{dashed}
+use Rattle.lines.specs.Courses.{lineOf}
 use Rattle.circles.specs.declared.circle.Circle.{Circle}
 use Rattle.circles.specs.Circle.{disc, outline, circle}
 use Rattle.circles.specs.Reaches.{circleOf}

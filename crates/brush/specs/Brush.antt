@@ -9,9 +9,9 @@ use lib.Dec.{eqb}
 use lib.ListN.{length, getD}
 use Rattle.raster.specs.declared.biased.Spot.{Spot}
 use Rattle.raster.specs.Shapes.{Shape, dot, all}
+use Rattle.raster.specs.Biased.{dotOf, NearB}
 use Rattle.lines.specs.Dashes.{dashed}
 use Rattle.lines.specs.Courses.{lineOf}
-use Rattle.raster.specs.Biased.{dotOf, NearB}
 use Rattle.circles.specs.Circle.{disc, outline}
 use Rattle.circles.specs.Reaches.{circleOf}
 

@@ -12,9 +12,9 @@ use raster::fill::fill;
 use raster::frame::Frame;
 ghost use mathlib.Core.Path.{_≡_};
 ghost use Rattle.raster.specs.Shapes.{dot, all};
-ghost use Rattle.lines.specs.Dashes.{dashed};
 ghost use Rattle.raster.specs.Frame.{Coord, Fitting};
 ghost use Rattle.raster.specs.Paint as Paint;
+ghost use Rattle.lines.specs.Dashes.{dashed};
 ghost use Rattle.circles.specs.Circle.{circle};
 ghost use Rattle.brush.specs.Brush.{Full, Radius, Near, Holds, shapeOf, colourOf};
 
