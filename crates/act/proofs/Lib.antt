@@ -5,6 +5,5 @@ pub mod Handing
 pub mod ValueLaws
 pub mod ConditionLaws
 pub mod PointLaws
-pub mod PatternLaws
 pub mod JumpLaws
 pub mod CallLaws

@@ -6,4 +6,3 @@ pub mod Conditions
 pub mod Aims
 pub mod Calculations
 pub mod Point
-pub mod Pattern

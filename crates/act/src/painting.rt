@@ -1,4 +1,4 @@
-// Dots, lines, circles and clearing: what is to be painted is left in the brush, and 1 answered, once the last check has passed.
+// Dots, lines, circles and clearing: what is to be painted is left in the brush, and Brushed answered, once the last check has passed.
 use crate::point::Point;
 use crate::point::Round;
 use crate::point::circle_of;
@@ -16,25 +16,24 @@ use crate::registers::stop;
 use brush::Brush;
 use brush::hold_all;
 use brush::hold_circle;
+use brush::hold_dashed;
 use brush::hold_dot;
 use brush::hold_line;
 use fetch::source::Taken;
 use lines::line::Line;
-use lines::line::SOLID;
 use numbers::place::WordIndex;
 use numbers::value::low8;
 use player::Upshot;
 use raster::dots::Dot;
 ghost use mathlib.Core.Path.{_≡_};
 ghost use Prim.Native.Nat.{ℕ};
-ghost use Rattle.lines.specs.Dashes.{dashed};
 ghost use Rattle.circles.specs.Circle as Circles;
+ghost use Rattle.brush.specs.Brush.{Full, Holds};
 ghost use Rattle.rules.specs.Environment.{moved};
 ghost use Rattle.rules.specs.Op as Op;
 ghost use Rattle.rules.specs.Opcodes as Opcodes;
-ghost use Rattle.rules.specs.Opcodes.{dots, paints, rule};
+ghost use Rattle.rules.specs.Opcodes.{dots, typed, paints, rule};
 ghost use Rattle.act.specs.Lent.{celled};
-ghost use Rattle.act.specs.Pattern.{patternOf};
 ghost use Rattle.act.specs.Shown.{does, answers};
 ghost use Rattle.act.specs.Contracts.{Paints, Draws, Handed, Drawable, Coords};
 
@@ -91,11 +90,19 @@ fn other_type(last: u32, given: u32) -> bool
     last < given
 }
 
-// What a line of that type is drawn with: all ones in type 0, else the pattern.
-fn line_pattern(given: u32, cells: &Cells) -> u32
-    ensures { λ r. ⌜ r ≡ patternOf given (celled (now (cells .entry)) .pattern) ⌝ }
+// A line in the foreground colour: in type 0 all of it, else what the pattern paints.
+fn hold_typed(given: u32, l: Line, cells: &Cells, brush: &mut Brush)
+    requires { ⌜ Full (now brush) ⌝ }
+    requires { ⌜ Coords (l .from) × Coords (l .to) ⌝ }
+    ensures { λ _.
+        ⌜ Holds (typed given (celled (now (cells .entry)) .pattern) l) (celled (now (cells .entry)) .colour) (now (brush .exit)) ⌝ }
 {
-    if given == 0 { SOLID } else { pattern(cells) }
+    let c = colour(cells);
+    if given == 0 {
+        hold_line(brush, l, c);
+    } else {
+        hold_dashed(brush, l, pattern(cells), c);
+    }
 }
 
 // A line in the foreground colour. a: its type; b, c: x0 and y0; d, e: x1 and y1.
@@ -117,17 +124,16 @@ pub fn line(t: Taken, cells: &mut Cells, brush: &mut Brush) -> Upshot
             let Point::At(q) = point_of(o.d, o.e) else {
                 return refuse(cells, 25);
             };
-            let bits = line_pattern(o.a, &*cells);
-            hold_line(brush, Line { from: p, to: q }, bits, colour(&*cells));
+            hold_typed(o.a, Line { from: p, to: q }, &*cells, brush);
             finish_painting(cells, next)
         }
     }
 }
 
-// A line from the position to q, as far as a pattern paints it, and the position there.
+// A line from the position to q, and the position there.
 fn draw_to(
+    given: u32,
     q: Dot,
-    pattern: u32,
     next: WordIndex,
     cells: &mut Cells,
     points: &mut Points,
@@ -135,11 +141,11 @@ fn draw_to(
 ) -> Upshot
     requires { ⌜ Drawable (now cells) (now points) (now brush) × Coords q ⌝ }
     ensures { λ r.
-        ⌜ Draws r (does (λ e. paints (dashed pattern (record { from = e .pen .position; to = q })) (e .pen .colour) (moved q e)) next)
+        ⌜ Draws r (does (λ e. paints (typed given (e .pen .pattern) (record { from = e .pen .position; to = q })) (e .pen .colour) (moved q e)) next)
         (now (cells .entry)) (now (cells .exit)) (now (points .entry)) (now (points .exit)) (now (brush .exit)) ⌝ }
 {
     let here = position(&*points);
-    hold_line(brush, Line { from: here, to: q }, pattern, colour(&*cells));
+    hold_typed(given, Line { from: here, to: q }, &*cells, brush);
     set_position(points, q);
     finish_painting(cells, next)
 }
@@ -160,8 +166,7 @@ pub fn line_to(t: Taken, cells: &mut Cells, points: &mut Points, brush: &mut Bru
             let Point::At(q) = point_of(o.b, o.c) else {
                 return refuse(cells, 25);
             };
-            let bits = line_pattern(o.a, &*cells);
-            draw_to(q, bits, next, cells, points, brush)
+            draw_to(o.a, q, next, cells, points, brush)
         }
     }
 }
@@ -183,8 +188,7 @@ pub fn line_by(t: Taken, cells: &mut Cells, points: &mut Points, brush: &mut Bru
             let Point::At(q) = point_by(here, o.b, o.c) else {
                 return refuse(cells, 25);
             };
-            let bits = line_pattern(o.a, &*cells);
-            draw_to(q, bits, next, cells, points, brush)
+            draw_to(o.a, q, next, cells, points, brush)
         }
     }
 }

@@ -17,12 +17,13 @@ use Rattle.raster.specs.Shapes.{dot, all}
 use Rattle.raster.specs.Frame.{Coord}
 use Rattle.raster.specs.Biased.{spotOf, dotOf, NearB}
 use Rattle.lines.specs.declared.line.Line.{Line}
+use Rattle.lines.specs.Line.{line}
 use Rattle.lines.specs.Dashes.{dashed}
 use Rattle.lines.specs.Courses.{lineOf}
 use Rattle.circles.specs.declared.circle.Circle.{Circle}
 use Rattle.circles.specs.Circle.{disc, outline, circle}
 use Rattle.circles.specs.Reaches.{circleOf}
-use Rattle.brush.specs.Brush.{kind, one, other, pattern, radius, shapeOf, Full, Radius, Near, Holds}
+use Rattle.brush.specs.Brush.{kind, one, other, pattern, radius, between, shapeOf, Full, Radius, Near, Holds}
 use Rattle.raster.proofs.Coordinates.{dot-back}
 use Rattle.brush.proofs.Spelt.{spelt, one-by-one}
 
@@ -46,10 +47,10 @@ radius-back z h = rw (sym (radius-natural z h)) (toZ-ofZ {w = w32} (record { sfi
 
 -- a kind of which nothing is asked
 abbrev asks : ℕ → Bool
-asks k = eqb k 2 || eqb k 4 || eqb k 5
+asks k = eqb k 2 || eqb k 4 || eqb k 5 || eqb k 6
 
 pub unasked : {p : List ℕ} (k : ℕ) → kind p ≡ k → asks k ≡ false → Near p
-unasked {p} k e h = record { line = λ z. no z refl; disc = λ z. no z refl; outline = λ z. no z refl }
+unasked {p} k e h = record { line = λ z. no z refl; disc = λ z. no z refl; outline = λ z. no z refl; dashed = λ z. no z refl }
   where
     no : {j : ℕ} {X : Type 0} → kind p ≡ j → asks j ≡ true → X
     no z t = absurd (true≢false (sym t ∙ ap asks (sym z ∙ e) ∙ h))
@@ -63,21 +64,35 @@ module _ (b : List ℕ) (l : Full b) (c : ℕ) (k : c < 256) where
       (one-by-one 0 (λ b. Holds (dot d) c (set (set (set (set b 0 1) 1 c) 2 (spotOf d .x)) 3 (spotOf d .y))) b l
       (record { full = refl; near = unasked 1 refl refl; shape = ap dot (dot-back d h); colour = byte c k }))
 
-  abbrev straight : Spot → Spot → ℕ → List ℕ → List ℕ
-  straight p q o b = set (set (set (set (set (set (set b 0 2) 1 c) 2 (p .x)) 3 (p .y)) 4 (q .x)) 5 (q .y)) 6 o
+  -- a line's ends
+  module _ (m : Line) (h : Coord (m .from .x) × Coord (m .from .y) × Coord (m .to .x) × Coord (m .to .y)) where
+    same-line : lineOf (spotOf (m .from)) (spotOf (m .to)) ≡ m
+    same-line = λ i. record { from = dot-back (m .from) (h .0, h .1) i; to = dot-back (m .to) (h .2, h .3) i }
 
-  pub line-held : (m : Line) → (Coord (m .from .x) × Coord (m .from .y) × Coord (m .to .x) × Coord (m .to .y)) → (o : ℕ) (p q : Spot) → p ≡ spotOf (m .from)
-      → q ≡ spotOf (m .to) → Holds (dashed o m) c (straight p q o b)
-  unfolding shapeOf
-  line-held m h o p q ep eq =
-      rw (ep, eq)
-      (one-by-one 0 (λ b. Holds (dashed o m) c (straight (spotOf (m .from)) (spotOf (m .to)) o b)) b l
-      (record {
-        full = refl;
-        near = record { line = λ z. (near-back (m .from) (h .0, h .1), near-back (m .to) (h .2, h .3)); disc = λ z. absurd (omega (arith, z)); outline = λ z. absurd (omega (arith, z)) };
-        shape = ap (dashed o) (λ i. record { from = dot-back (m .from) (h .0, h .1) i; to = dot-back (m .to) (h .2, h .3) i });
-        colour = byte c k;
-      }))
+    ends : NearB (spotOf (m .from)) × NearB (spotOf (m .to))
+    ends = (near-back (m .from) (h .0, h .1), near-back (m .to) (h .2, h .3))
+
+    pub line-held : Holds (line m) c (between 2 c (spotOf (m .from)) (spotOf (m .to)) b)
+    unfolding shapeOf
+    line-held =
+        one-by-one 0 (λ b. Holds (line m) c (between 2 c (spotOf (m .from)) (spotOf (m .to)) b)) b l
+        (record {
+          full = refl;
+          near = record { line = λ z. ends; disc = λ z. absurd (omega (arith, z)); outline = λ z. absurd (omega (arith, z)); dashed = λ z. absurd (omega (arith, z)) };
+          shape = ap line same-line;
+          colour = byte c k;
+        })
+
+    pub dashed-held : (o : ℕ) → Holds (dashed o m) c (set (between 6 c (spotOf (m .from)) (spotOf (m .to)) b) 6 o)
+    unfolding shapeOf
+    dashed-held o =
+        one-by-one 0 (λ b. Holds (dashed o m) c (set (between 6 c (spotOf (m .from)) (spotOf (m .to)) b) 6 o)) b l
+        (record {
+          full = refl;
+          near = record { line = λ z. absurd (omega (arith, z)); disc = λ z. absurd (omega (arith, z)); outline = λ z. absurd (omega (arith, z)); dashed = λ z. ends };
+          shape = ap (dashed o) same-line;
+          colour = byte c k;
+        })
 
   abbrev roundly : Bool → Spot → ℕ → List ℕ → List ℕ
   roundly filled p q b = set (set (set (set (set b 0 (cond filled 4 5)) 1 c) 2 (p .x)) 3 (p .y)) 4 q
@@ -96,9 +111,9 @@ module _ (b : List ℕ) (l : Full b) (c : ℕ) (k : c < 256) where
 
       by : (t : Bool) → Holds (circle t m) c (roundly t (spotOf (m .centre)) (natAbs (m .radius)) (spelt 0 7 b))
       by true =
-          record { full = refl; near = record { line = λ z. absurd (omega (arith, z)); disc = λ z. asked; outline = λ z. asked }; shape = ap disc same; colour = byte c k }
+          record { full = refl; near = record { line = λ z. absurd (omega (arith, z)); disc = λ z. asked; outline = λ z. asked; dashed = λ z. absurd (omega (arith, z)) }; shape = ap disc same; colour = byte c k }
       by false =
-          record { full = refl; near = record { line = λ z. absurd (omega (arith, z)); disc = λ z. asked; outline = λ z. asked }; shape = ap outline same; colour = byte c k }
+          record { full = refl; near = record { line = λ z. absurd (omega (arith, z)); disc = λ z. asked; outline = λ z. asked; dashed = λ z. absurd (omega (arith, z)) }; shape = ap outline same; colour = byte c k }
 
   pub all-held : Holds all c (set (set b 0 3) 1 c)
   unfolding shapeOf
@@ -112,7 +127,7 @@ module _ (b : List ℕ) where
   unfolding shapeOf
   holds-dot e = rw e
 
-  pub holds-line : kind b ≡ 2 → shapeOf b ≡ dashed (pattern b) (lineOf (one b) (other b))
+  pub holds-line : kind b ≡ 2 → shapeOf b ≡ line (lineOf (one b) (other b))
   unfolding shapeOf
   holds-line e = rw e
 
@@ -128,8 +143,19 @@ module _ (b : List ℕ) where
   unfolding shapeOf
   holds-outline e = rw e
 
-  pub holds-none : ((((Unit {0} × (kind b ≡ 1 → ⊥)) × (kind b ≡ 2 → ⊥)) × (kind b ≡ 3 → ⊥)) × (kind b ≡ 4 → ⊥)) × (kind b ≡ 5 → ⊥)
+  pub holds-dashed : kind b ≡ 6 → shapeOf b ≡ dashed (pattern b) (lineOf (one b) (other b))
+  unfolding shapeOf
+  holds-dashed e = rw e
+
+  pub holds-none : (((((Unit {0} × (kind b ≡ 1 → ⊥)) × (kind b ≡ 2 → ⊥)) × (kind b ≡ 3 → ⊥)) × (kind b ≡ 4 → ⊥)) × (kind b ≡ 5 → ⊥)) × (kind b ≡ 6 → ⊥)
       → shapeOf b ≡ (λ x y. false)
   unfolding shapeOf
   holds-none h =
-      rw (ne-eqb (kind b) 1 (h .0 .0 .0 .0 .1), ne-eqb (kind b) 2 (h .0 .0 .0 .1), ne-eqb (kind b) 3 (h .0 .0 .1), ne-eqb (kind b) 4 (h .0 .1), ne-eqb (kind b) 5 (h .1))
+      rw (
+        ne-eqb (kind b) 1 (h .0 .0 .0 .0 .0 .1),
+        ne-eqb (kind b) 2 (h .0 .0 .0 .0 .1),
+        ne-eqb (kind b) 3 (h .0 .0 .0 .1),
+        ne-eqb (kind b) 4 (h .0 .0 .1),
+        ne-eqb (kind b) 5 (h .0 .1),
+        ne-eqb (kind b) 6 (h .1),
+      )

@@ -6,10 +6,11 @@ use Prim.Native.Nat.{ℕ, _%_, _<_}
 use lib.IntN.{ℤ, pos}
 use lib.Signed.{leZ}
 use lib.Dec.{eqb}
-use lib.ListN.{length, getD}
+use lib.ListN.{length, getD, set}
 use Rattle.raster.specs.declared.biased.Spot.{Spot}
 use Rattle.raster.specs.Shapes.{Shape, dot, all}
 use Rattle.raster.specs.Biased.{dotOf, NearB}
+use Rattle.lines.specs.Line.{line}
 use Rattle.lines.specs.Dashes.{dashed}
 use Rattle.lines.specs.Courses.{lineOf}
 use Rattle.circles.specs.Circle.{disc, outline}
@@ -25,7 +26,7 @@ one p = record { x = getD p 2 0; y = getD p 3 0 }
 abbrev pub other : List ℕ → Spot
 other p = record { x = getD p 4 0; y = getD p 5 0 }
 
--- between which a line has a pattern
+-- between which a dashed line has a pattern
 abbrev pub pattern : List ℕ → ℕ
 pattern p = getD p 6 0
 
@@ -33,14 +34,15 @@ pattern p = getD p 6 0
 abbrev pub radius : List ℕ → ℕ
 radius p = getD p 4 0
 
--- 1 a dot, 2 a line, 3 every point, 4 a filled circle, 5 a circle's outline, any other none
+-- 1 a dot, 2 a line, 3 every point, 4 a filled circle, 5 a circle's outline, 6 a dashed line, any other none
 abbrev pub shapeBy : ℕ → List ℕ → Shape
 shapeBy k p =
     cond (eqb k 1) (dot (dotOf (one p)))
-    (cond (eqb k 2) (dashed (pattern p) (lineOf (one p) (other p)))
+    (cond (eqb k 2) (line (lineOf (one p) (other p)))
     (cond (eqb k 3) all
     (cond (eqb k 4) (disc (circleOf (one p) (radius p)))
-    (cond (eqb k 5) (outline (circleOf (one p) (radius p))) (λ x y. false)))))
+    (cond (eqb k 5) (outline (circleOf (one p) (radius p)))
+    (cond (eqb k 6) (dashed (pattern p) (lineOf (one p) (other p))) (λ x y. false))))))
 
 -- the shape that the brush holds, and its colour
 unfoldable pub shapeOf : List ℕ → Shape
@@ -58,11 +60,16 @@ pub record Radius (z : ℤ) : Type 0 where
   pub low : leZ (pos 0) z ≡ true
   pub high : leZ z (pos 32767) ≡ true
 
--- a line's ends are coordinates; a circle's centre is one, and its radius below 32,768
+-- a line's ends are coordinates, dashed or not; a circle's centre is one, and its radius below 32,768
 pub record Near (p : List ℕ) : Type 0 where
   pub line : kind p ≡ 2 → NearB (one p) × NearB (other p)
   pub disc : kind p ≡ 4 → NearB (one p) × (radius p < 32768)
   pub outline : kind p ≡ 5 → NearB (one p) × (radius p < 32768)
+  pub dashed : kind p ≡ 6 → NearB (one p) × NearB (other p)
+
+-- the brush p with a line of the kind k between two points, in the colour c
+abbrev pub between : ℕ → ℕ → Spot → Spot → List ℕ → List ℕ
+between k c one other p = set (set (set (set (set (set p 0 k) 1 c) 2 (one .x)) 3 (one .y)) 4 (other .x)) 5 (other .y)
 
 -- p holds the shape S in the colour c
 pub record Holds (S : Shape) (c : ℕ) (p : List ℕ) : Type 0 where

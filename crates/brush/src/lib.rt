@@ -3,6 +3,7 @@ use circles::circle::Circle;
 use circles::circle::draw_disc;
 use circles::circle::draw_outline;
 use lines::line::Line;
+use lines::line::draw_dashed;
 use lines::line::draw_line;
 use raster::biased::Spot;
 use raster::biased::spot_of;
@@ -14,12 +15,14 @@ ghost use mathlib.Core.Path.{_≡_};
 ghost use Rattle.raster.specs.Shapes.{dot, all};
 ghost use Rattle.raster.specs.Frame.{Coord, Fitting};
 ghost use Rattle.raster.specs.Paint as Paint;
+ghost use Rattle.raster.specs.Biased.{spotOf};
+ghost use Rattle.lines.specs.Line.{line};
 ghost use Rattle.lines.specs.Dashes.{dashed};
 ghost use Rattle.circles.specs.Circle.{circle};
-ghost use Rattle.brush.specs.Brush.{Full, Radius, Near, Holds, shapeOf, colourOf};
+ghost use Rattle.brush.specs.Brush.{Full, Radius, Near, Holds, between, shapeOf, colourOf};
 
-// 0 the kind: 1 a dot, 2 a line, 3 every dot, 4 a filled circle, 5 a circle's outline, any other nothing; 1 the colour; 2 and 3 a point,
-// biased; 4 and 5 another, or 4 a radius; 6 a line's pattern.
+// 0 the kind: 1 a dot, 2 a line, 3 every dot, 4 a filled circle, 5 a circle's outline, 6 a dashed line, any other nothing; 1 the
+// colour; 2 and 3 a point, biased; 4 and 5 another, or 4 a radius; 6 a dashed line's pattern.
 pub type Brush = [u32; 7];
 
 pub fn hold_dot(brush: &mut Brush, d: Dot, c: u8)
@@ -34,20 +37,37 @@ pub fn hold_dot(brush: &mut Brush, d: Dot, c: u8)
     brush[3] = p.y;
 }
 
-// The dots of a line that a pattern paints.
-pub fn hold_line(brush: &mut Brush, l: Line, pattern: u32, c: u8)
+// Both ends of a line, of some kind.
+fn hold_ends(brush: &mut Brush, kind: u32, l: Line, c: u8)
     requires { ⌜ Full (now brush) ⌝ }
     requires { ⌜ Coord (l .from .x) × Coord (l .from .y) × Coord (l .to .x) × Coord (l .to .y) ⌝ }
-    ensures { λ _. ⌜ Holds (dashed pattern l) c (now (brush .exit)) ⌝ }
+    ensures { λ _. ⌜ now (brush .exit) ≡ between kind c (spotOf (l .from)) (spotOf (l .to)) (now (brush .entry)) ⌝ }
 {
     let p = spot_of(l.from);
     let q = spot_of(l.to);
-    brush[0] = 2;
+    brush[0] = kind;
     brush[1] = c as u32;
     brush[2] = p.x;
     brush[3] = p.y;
     brush[4] = q.x;
     brush[5] = q.y;
+}
+
+pub fn hold_line(brush: &mut Brush, l: Line, c: u8)
+    requires { ⌜ Full (now brush) ⌝ }
+    requires { ⌜ Coord (l .from .x) × Coord (l .from .y) × Coord (l .to .x) × Coord (l .to .y) ⌝ }
+    ensures { λ _. ⌜ Holds (line l) c (now (brush .exit)) ⌝ }
+{
+    hold_ends(brush, 2, l, c);
+}
+
+// The dots of a line that a pattern paints.
+pub fn hold_dashed(brush: &mut Brush, l: Line, pattern: u32, c: u8)
+    requires { ⌜ Full (now brush) ⌝ }
+    requires { ⌜ Coord (l .from .x) × Coord (l .from .y) × Coord (l .to .x) × Coord (l .to .y) ⌝ }
+    ensures { λ _. ⌜ Holds (dashed pattern l) c (now (brush .exit)) ⌝ }
+{
+    hold_ends(brush, 6, l, c);
     brush[6] = pattern;
 }
 
@@ -91,11 +111,18 @@ pub fn paint(screen: &mut [u8], f: Frame, brush: &Brush)
                 x: brush[4],
                 y: brush[5],
             };
-            draw_line(screen, f, p, q, brush[6], c)
+            draw_line(screen, f, p, q, c)
         }
         3 => fill(screen, f, c),
         4 => draw_disc(screen, f, p, brush[4], c),
         5 => draw_outline(screen, f, p, brush[4], c),
+        6 => {
+            let q = Spot {
+                x: brush[4],
+                y: brush[5],
+            };
+            draw_dashed(screen, f, p, q, brush[6], c)
+        }
         _ => {}
     }
 }

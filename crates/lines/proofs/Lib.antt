@@ -12,3 +12,4 @@ pub mod Spans
 pub mod Walks
 pub mod Paces
 pub mod Going
+pub mod Drawn

@@ -46,5 +46,5 @@ module _ (o : Operands) (n : ℕ) (e e′ : Env) (h : e .pen .pattern ≡ solid)
       ap (λ (r : Rule). carried r e′) (drawn-alike (far d || far q) (e .pen .position) q (moved q e) h)
 
 -- ---- T-02's statement is kept for type 0: swapping the ends gives the same dots
-pub swap-kept : (e : Env) (p q : Dot) (x y : ℤ) → typed 0 e (record { from = p; to = q }) x y ≡ typed 0 e (record { from = q; to = p }) x y
-swap-kept e p q x y = swap-ends p q x y
+pub swap-kept : (o : ℕ) (p q : Dot) (x y : ℤ) → typed 0 o (record { from = p; to = q }) x y ≡ typed 0 o (record { from = q; to = p }) x y
+swap-kept o p q x y = swap-ends p q x y

@@ -101,12 +101,12 @@ abbrev pub otherType : ℕ → ℕ → Bool
 otherType last type = ltb last type
 
 -- a line's dots: in type 0 all of them, in type 1 those that the pattern paints
-abbrev pub typed : ℕ → Env → Line → Shape
-typed type e l = cond (eqb type 0) (line l) (dashed (e .pen .pattern) l)
+abbrev pub typed : ℕ → ℕ → Line → Shape
+typed type pattern l = cond (eqb type 0) (line l) (dashed pattern l)
 
 -- a line from p to q; `out`: a coordinate or offset is outside
 abbrev pub draws : ℕ → Bool → Dot → Dot → Env → Rule
-draws type out p q e = refuse 24 (otherType 1 type) (refuse 25 out (paints (typed type e (record { from = p; to = q })) (e .pen .colour) e))
+draws type out p q e = refuse 24 (otherType 1 type) (refuse 25 out (paints (typed type (e .pen .pattern) (record { from = p; to = q })) (e .pen .colour) e))
 
 -- a circle of the shape S in the foreground colour; a: its type; b, c: its centre; d: its radius
 abbrev pub circles : (Circle → Shape) → Operands → Env → Rule

@@ -5,7 +5,7 @@ use Rattle.raster.specs.Shapes.{Shape}
 use Rattle.raster.specs.Paint.{paint}
 use Rattle.brush.specs.Brush.{shapeOf, colourOf}
 use Rattle.raster.proofs.Paintings.{nothing}
-use Rattle.brush.proofs.Brushes.{holds-dot, holds-line, holds-all, holds-disc, holds-outline, holds-none}
+use Rattle.brush.proofs.Brushes.{holds-dot, holds-line, holds-all, holds-disc, holds-outline, holds-dashed, holds-none}
 use Rattle.brush.proofs.paint.Statement.{statement}
 use Rattle.brush.proofs.paint.Tie as tie
 
@@ -19,7 +19,7 @@ as-held m R e = let g = S m .args in ap (λ (T : Shape). paint (g .f) T (colourO
 
 draw-line-requires : tie.Need-draw-line-requires
 draw-line-requires c κs =
-    let k = c .before .before .before .before in
+    let k = c .before .before .before in
     let s = S (k .before) in
     (s .pre .0, s .pre .1 .line (k .match .keys2))
 
@@ -35,6 +35,12 @@ draw-outline-requires c κs =
     let s = S (k .before) in
     (s .pre .0, s .pre .1 .outline (k .match .keys5))
 
+draw-dashed-requires : tie.Need-draw-dashed-requires
+draw-dashed-requires c κs =
+    let k = c .before .before .before .before in
+    let s = S (k .before) in
+    (s .pre .0, s .pre .1 .dashed (k .match .keys6))
+
 returns : tie.Need-returns
 returns c =
     let d = c .before .before in
@@ -44,7 +50,7 @@ returns c =
 returns-2 : tie.Need-returns-2
 returns-2 c =
     let d = c .before .before in
-    let k = d .before .before .before .before .before in
+    let k = d .before .before .before .before in
     d .draw-line .ensures ∙ as-held (k .before) _ (holds-line (S (k .before) .args .brush .now) (k .match .keys2))
 
 returns-3 : tie.Need-returns-3
@@ -67,6 +73,12 @@ returns-5 c =
 
 returns-6 : tie.Need-returns-6
 returns-6 c =
+    let d = c .before .before in
+    let k = d .before .before .before .before .before in
+    d .draw-dashed .ensures ∙ as-held (k .before) _ (holds-dashed (S (k .before) .args .brush .now) (k .match .keys6))
+
+returns-7 : tie.Need-returns-7
+returns-7 c =
     let g = S (c .before) .args in
     sym (nothing (g .f) (colourOf (g .brush .now)) (g .screen .now)) ∙ as-held (c .before) _ (holds-none (g .brush .now) (c .match .rest))
 
@@ -75,10 +87,12 @@ paint-spec =
     tie.close (tie.spec
     (λ c. search needs) (λ c. search needs) (λ c. search needs) (λ c. search needs) (λ c. search needs)
     (λ c κs. search needs)
-    (λ c. search needs) (λ c. search needs) (λ c. search needs)
+    (λ c. search needs) (λ c. search needs)
     draw-line-requires
     (λ c κs. search needs)
     (λ c. search needs) draw-disc-requires
     (λ c. search needs) draw-outline-requires
+    (λ c. search needs) (λ c. search needs) (λ c. search needs)
+    draw-dashed-requires
     (λ c. search needs) returns (λ c. search needs) returns-2 (λ c. search needs) returns-3 (λ c. search needs) returns-4
-    (λ c. search needs) returns-5 returns-6)
+    (λ c. search needs) returns-5 (λ c. search needs) returns-6 returns-7)

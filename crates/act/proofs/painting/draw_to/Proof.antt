@@ -12,25 +12,22 @@ pub draw-to-spec : {M : Type 1} → statement M
 draw-to-spec =
     tie.close (tie.spec
     (λ c κs. search needs)
-    (λ c κs. search needs)
     (λ c κs.
-    let here = c .before .before .before in
+    let here = c .before .before in
     let pre = here .before .before .pre in
-    let from = near-as (here .position .ensures) (pre .0 .here) in
-    (pre .0 .brush .0, (from .0, from .1, pre .1 .0, pre .1 .1)))
+    (pre .0 .brush .0, (near-as (here .position .ensures) (pre .0 .here), pre .1)))
     (λ c κs. search needs) (λ c κs. search needs)
     (λ c.
     let m = c .before .before in
     let d = m .before .before in
-    let k = d .before in
-    let here = k .before .before .before in
+    let here = d .before .before .before in
     let g = c .finish-painting .ensures in
-    let h = d .hold-line .ensures in
+    let h = d .hold-typed .ensures in
     record {
       cells = g .1 .full;
       points = m .set-position .ensures .full;
       brush = (h .full, h .near);
       tells = λ b vs st.
           drawn _ _ _ _ refl (g .0) (repointed moved refl (m .set-position .ensures) (g .1) b vs st) refl
-          (rw (here .position .ensures, k .colour .ensures) at h);
+          (rw (here .position .ensures) at h);
     }))

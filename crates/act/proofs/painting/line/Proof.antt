@@ -2,12 +2,9 @@
 use mathlib.Core.Path.{refl, sym, _∙_}
 use native.Mathlib.Omega.{arith}
 use borrow.Author.Needs.{needs}
-use Rattle.rules.specs.Opcodes.{point}
-use Rattle.act.specs.Lent.{look}
 use Rattle.act.proofs.Acting.{halts, drawn}
 use Rattle.act.proofs.Handing.{passed-paints, got-paints}
 use Rattle.act.proofs.PointLaws.{near, near-as, told-outside, told-at}
-use Rattle.act.proofs.PatternLaws.{held-typed}
 use Rattle.act.proofs.painting.line.Statement.{statement}
 use Rattle.act.proofs.painting.line.Tie as tie
 
@@ -44,36 +41,30 @@ line-spec =
     let out = told-outside _ _ (second .point-of2 .ensures) (c .enum-told2 .given .1) in
     got-paints _ (t .t2 .given .1)
     (let h = d .refuse3 .ensures in record { cells = h .1 .full; brush = pre .1; tells = λ b ps vs st. halts 25 (omega arith) _ _ h b ps vs st _ (rw (sym (first .before .before .other-type .ensures) ∙ first .before .if1 .left, p .0, out)) }))
-    (λ c κs. search needs) (λ c κs. search needs)
     (λ c κs.
-    let w = c .before .before .before .before .before .before in
+    let w = c .before .before .before in
     let second = w .before .before in
     let first = second .before .before .before .before in
     let p = told-at _ _ (first .point-of .ensures) (second .before .before .p .given .1) in
     let q = told-at _ _ (second .point-of2 .ensures) (w .q .given .1) in
-    let np = near-as (p .1) (near _ (p .0)) in
-    let nq = near-as (q .1) (near _ (q .0)) in
-    (first .before .before .before .before .before .before .pre .1 .0, (np .0, np .1, nq .0, nq .1)))
+    (first .before .before .before .before .before .before .pre .1 .0, (near-as (p .1) (near _ (p .0)), near-as (q .1) (near _ (q .0)))))
     (λ c κs. search needs)
     (λ d n. let c = d .before .before in passed-paints _ (c .before .t .given .1) (d .stop .ensures) (c .before .before .before .pre .1))
     (λ c n.
     let m = c .before .before in
-    let k = m .before in
-    let o = k .before .before .before in
-    let w = o .before .before .before in
+    let w = m .before .before .before .before in
     let second = w .before .before in
     let first = second .before .before .before .before in
     let t = first .before .before .before .before in
     let p = told-at _ _ (first .point-of .ensures) (second .before .before .p .given .1) in
     let q = told-at _ _ (second .point-of2 .ensures) (w .q .given .1) in
-    let a = t .t2 .given .0 .0 in
     let g = c .finish-painting .ensures in
-    let h = m .hold-line .ensures in
+    let h = m .hold-typed .ensures in
     got-paints _ (t .t2 .given .1)
     (record {
       cells = g .1 .full;
       brush = (h .full, h .near);
       tells = λ b ps vs st.
           drawn _ _ _ _ (rw (sym (first .before .before .other-type .ensures) ∙ first .before .if1 .left, p .0, q .0)) (g .0) (g .1 .shows b ps vs st) refl
-          (held-typed (a .a) (look b (t .before .before .args .cells .now) ps vs st) (record { from = point (a .b) (a .c); to = point (a .d) (a .e) }) (o .line-pattern .ensures) (rw (p .1, q .1, k .colour .ensures) at h));
+          (rw (p .1, q .1) at h);
     })))

@@ -5,7 +5,6 @@ use borrow.Author.Needs.{needs}
 use Rattle.act.proofs.Acting.{halts, past}
 use Rattle.act.proofs.Handing.{passed-draws, got-draws}
 use Rattle.act.proofs.PointLaws.{near, told-outside, told-at}
-use Rattle.act.proofs.PatternLaws.{line-to-typed}
 use Rattle.act.proofs.painting.line_to.Statement.{statement}
 use Rattle.act.proofs.painting.line_to.Tie as tie
 
@@ -30,9 +29,8 @@ line-to-spec =
     let out = told-outside _ _ (at .point-of .ensures) (c .enum-told .given .1) in
     got-draws _ (t .t2 .given .1)
     (let h = d .refuse2 .ensures in record { cells = h .1 .full; points = pre .points; brush = pre .brush; tells = λ b vs st. halts 25 (omega arith) _ _ h b (t .before .before .args .points .now) vs st _ (rw (sym (at .before .before .other-type .ensures) ∙ at .before .if1 .left, out)) }))
-    (λ c κs. search needs)
     (λ c κs.
-    let w = c .before .before .before .before .before .before in
+    let w = c .before .before .before .before in
     let at = w .before .before in
     let q = told-at _ _ (at .point-of .ensures) (w .q .given .1) in
     (at .before .before .before .before .before .before .pre, rw (q .1) (near _ (q .0))))
@@ -41,16 +39,14 @@ line-to-spec =
     let pre = c .before .before .before .pre in
     passed-draws _ (c .before .t .given .1) (d .stop .ensures) (pre .points) (pre .brush))
     (λ c n.
-    let o = c .before .before .before .before in
-    let w = o .before .before .before in
+    let w = c .before .before .before .before .before in
     let at = w .before .before in
     let q = told-at _ _ (at .point-of .ensures) (w .q .given .1) in
-    let t = at .before .before .before .before in
     let d = c .draw-to .ensures in
-    got-draws _ (t .t2 .given .1)
+    got-draws _ (at .before .before .before .before .t2 .given .1)
     (record {
       cells = d .cells;
       points = d .points;
       brush = d .brush;
-      tells = λ b vs st. past _ _ _ _ _ (rw (sym (at .before .before .other-type .ensures) ∙ at .before .if1 .left, q .0)) (line-to-typed (t .t2 .given .0 .0 .a) _ _ (q .1) (o .line-pattern .ensures)) (d .tells b vs st);
+      tells = λ b vs st. past _ _ _ _ _ (rw (sym (at .before .before .other-type .ensures) ∙ at .before .if1 .left, q .0)) (rw (q .1)) (d .tells b vs st);
     })))
