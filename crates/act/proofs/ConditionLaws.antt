@@ -2,11 +2,12 @@
 use Prim.Native.Nat.{ℕ, _^_, _<_}
 use mathlib.Core.Path.{_≡_, refl, sym, ap, _∙_}
 use mathlib.Core.Bool.{Bool, true, false, not}
-use borrow.Author.Tests.{ltb-true, ltb-false, eqb-true, eqb-false, lt-leb, le-leb, eq-eqb, ne-eqb}
+use borrow.Author.Tests.{ltb-true, ltb-false, eqb-true, eqb-false, lt-leb, le-leb, ne-eqb}
 use lib.Dec.{ltb, leb, eqb}
 use lib.IntN.{ℤ, pos, negsuc}
 use lib.Signed.{leZ, ltZ}
 use Rattle.raster.specs.Shapes.{eqZ}
+use Rattle.raster.proofs.Points.{eqZ-refl, eqZ-apart}
 use Rattle.numbers.specs.Number.{signed32, low32}
 use Rattle.numbers.proofs.Bits.{low-signed}
 use Rattle.rules.specs.Conditions.{allowed, met}
@@ -28,16 +29,6 @@ not-ltZ (negsuc a) (pos b) = refl
 not-ltZ (negsuc a) (negsuc b) = not-ltb b a
 
 -- ---- equal values have equal bits
-eqZ-refl : (x : ℤ) → eqZ x x ≡ true
-eqZ-refl (pos a) = eq-eqb a a refl
-eqZ-refl (negsuc a) = eq-eqb a a refl
-
-eqZ-apart : (x y : ℤ) → (x ≡ y → ⊥) → eqZ x y ≡ false
-eqZ-apart (pos a) (pos b) n = ne-eqb a b (λ e. n (ap pos e))
-eqZ-apart (pos a) (negsuc b) n = refl
-eqZ-apart (negsuc a) (pos b) n = refl
-eqZ-apart (negsuc a) (negsuc b) n = ne-eqb a b (λ e. n (ap negsuc e))
-
 eqZ-bits : (a b : ℕ) → a < 2 ^ 32 → b < 2 ^ 32 → eqb a b ≡ eqZ (signed32 a) (signed32 b)
 eqZ-bits a b ha hb = go (eqb a b) refl
   where

@@ -3,6 +3,7 @@ pub mod Paintings
 pub mod Stores
 -- The laws that proofs cite, here and in the crates above:
 pub mod Tests
+pub mod Points
 pub mod Recolour
 pub mod Coordinates
 pub mod Rectangles
