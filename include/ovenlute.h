@@ -19,10 +19,12 @@ extern "C" {
 #define OVENLUTE_MOST_SIDE 2048       /* of a screen, across and down */
 #define OVENLUTE_VARIABLES 64
 #define OVENLUTE_RETURNS 16           /* the most that are stacked */
+#define OVENLUTE_MOST_DOTS 65536      /* of a line: the largest length that ovenlute_lit takes */
 
 /* The numbers that come back; each comment is what ovenlute_text says of it. 10 to 14 are of a call: nothing is done, and
    environment and screen are as they were. 20 to 29 are of an opcode: it was not carried out and changed nothing, those before
-   it stand, and the environment is stopped for good: it answers this number again, with its place. */
+   it stand, and the environment is stopped for good: it answers this number again, with its place. Only ovenlute_lit's 25 is of
+   its call and of no opcode. */
 enum ovenlute_number {
     OVENLUTE_ENDED = 0,          /* the list has ended */
     OVENLUTE_BUDGET = 1,         /* the budget is used up, the list still runs */
@@ -36,7 +38,7 @@ enum ovenlute_number {
     OVENLUTE_CUT = 22,           /* the list ends inside the opcode */
     OVENLUTE_NO_VARIABLE = 23,   /* a variable above 63 */
     OVENLUTE_NOT_ALLOWED = 24,   /* a mode, type or condition that is not allowed */
-    OVENLUTE_OUT_OF_RANGE = 25,  /* a coordinate, offset or position outside -32,768 to 32,767, or a radius outside 0 to 32,767 */
+    OVENLUTE_OUT_OF_RANGE = 25,  /* a coordinate or offset not -32,768 to 32,767, a radius not 0 to 32,767, a length above 65,536 */
     OVENLUTE_ZERO_DIVISOR = 26,  /* the divisor is zero */
     OVENLUTE_BAD_TARGET = 27,    /* a target that is not allowed */
     OVENLUTE_STACK_FULL = 28,    /* a call with 16 returns stacked */
@@ -98,12 +100,17 @@ struct ovenlute_done {
     uint32_t steps;         /* opcodes carried out in this call */
 };
 
+struct ovenlute_lit_dots {
+    uint8_t number;
+    uint32_t count;         /* how many dots light up */
+};
+
 struct ovenlute_words {
     uint8_t length;
     char text[95];          /* the words and zeros behind them, at least one: a C string */
 };
 
-/* Any of the three may be called from several threads at once on different environments and screens: nothing is kept between
+/* Any of the four may be called from several threads at once on different environments and screens: nothing is kept between
    calls but what is lent. Lists that share a screen take turns. None allocates, and none needs more than 2 KiB of stack. */
 
 /* A fresh environment for a screen of that size and a pane in it: variables 0, position (0, 0), colour 15, clip mode 0, window
@@ -124,6 +131,14 @@ struct ovenlute_made ovenlute_fresh(uint32_t width, uint32_t height, struct oven
    also where the call is refused, then with what it was. With length 0 a list or a screen may be NULL; env may not. */
 struct ovenlute_done ovenlute_run(const uint16_t *list, size_t words, uint8_t *screen, size_t bytes,
                                   struct ovenlute_env *env, uint32_t budget);
+
+/* How many dots of a dashed line light up, clipping aside, from its length in dots and its pattern alone: whole runs of 32 dots
+   times the ones in the pattern, plus the ones among the leftover low bits. Numbers: 0; 25 for a length above 65,536, with count 0.
+   - ovenlute_lit(100, 0x0F0F0F0F) answers 0 and 52: three runs of 16, and 4 of the leftover 4 dots.
+   - The line from (x0, y0) to (x1, y1) is n + 1 dots long, n the larger of the two absolute differences. So no line of a list is
+     refused. The count is that of the dots which a line of type 1 paints with this pattern where nothing of it is cut.
+   - Any pattern and any length may be given; no dots are none lit. Nothing is walked: 65,536 dots take as long as one. */
+struct ovenlute_lit_dots ovenlute_lit(uint32_t length, uint32_t pattern);
 
 /* The words for a number that comes back. */
 struct ovenlute_words ovenlute_text(uint8_t number);

@@ -1,5 +1,5 @@
 /*
- * The fourteen cases of docs/RULES.md with their variants, requests T-01's to T-03's, a line that is mostly outside, places of
+ * The fourteen cases of docs/RULES.md with their variants, requests T-01's to T-04's, a line that is mostly outside, places of
  * refusals, the numbers 10 to 14, and what the header says of NULL and of its limits, through the C face of the box. Each answer
  * is checked whole: number, place, steps, every field of the environment, every byte.
  */
@@ -389,6 +389,29 @@ static void check_patterns(void)
     }
 }
 
+static void check_lit(const char *name, uint32_t length, uint32_t pattern, uint8_t number, uint32_t count)
+{
+    struct ovenlute_lit_dots lit = ovenlute_lit(length, pattern);
+
+    check(name, lit.number != number ? "another number" : lit.count == count ? NULL : "another count");
+}
+
+static void check_lit_calls(void)
+{
+    check_lit("lit, no dots", 0, UINT32_MAX, 0, 0);
+    check_lit("lit, one dot", 1, 1, 0, 1);
+    check_lit("lit, one dot, and its bit is zero", 1, 0xFFFFFFFE, 0, 0);
+    check_lit("lit, the last dot of a run is left out", 31, 0x80000000, 0, 0);
+    check_lit("lit, the last dot of a run", 32, 0x80000000, 0, 1);
+    check_lit("lit, the first dot of the next run", 33, 1, 0, 2);
+    check_lit("lit, three runs and four dots", 100, 0x0F0F0F0F, 0, 52);
+    check_lit("lit, the longest line but one", 65535, 0x80000000, 0, 2047);
+    check_lit("lit, the longest line", OVENLUTE_MOST_DOTS, 0x80000000, 0, 2048);
+    check_lit("lit, the longest line, all of it", OVENLUTE_MOST_DOTS, UINT32_MAX, 0, 65536);
+    check_lit("lit, a dot too many", OVENLUTE_MOST_DOTS + 1, UINT32_MAX, OVENLUTE_OUT_OF_RANGE, 0);
+    check_lit("lit, 2^32 - 1 dots", UINT32_MAX, 0x0F0F0F0F, OVENLUTE_OUT_OF_RANGE, 0);
+}
+
 /* Nothing is read or written through a pointer with length 0. */
 static void check_null(void)
 {
@@ -421,6 +444,7 @@ int main(void)
     check_fresh_calls();
     check_door_calls();
     check_patterns();
+    check_lit_calls();
     check_null();
     check_limits();
     printf("%d cases, %d failed\n", checked, failed);

@@ -51,6 +51,10 @@ _Static_assert(offsetof(struct ovenlute_done, number) == 0, "done.number");
 _Static_assert(offsetof(struct ovenlute_done, place) == 4, "done.place");
 _Static_assert(offsetof(struct ovenlute_done, steps) == 8, "done.steps");
 
+_Static_assert(sizeof(struct ovenlute_lit_dots) == 8, "lit_dots");
+_Static_assert(offsetof(struct ovenlute_lit_dots, number) == 0, "lit_dots.number");
+_Static_assert(offsetof(struct ovenlute_lit_dots, count) == 4, "lit_dots.count");
+
 _Static_assert(sizeof(struct ovenlute_words) == 96, "words");
 _Static_assert(offsetof(struct ovenlute_words, length) == 0, "words.length");
 _Static_assert(offsetof(struct ovenlute_words, text) == 1, "words.text");

@@ -1,5 +1,7 @@
 // Ovenlute's face: what the panel's firm links.
 use lines::line::SOLID;
+use lit::LitDots;
+use lit::lit;
 use numbers::place::WordIndex;
 use raster::dots::Dot;
 use raster::frame::Bounds;
@@ -15,6 +17,7 @@ use wording::Words;
 use wording::words_for;
 ghost use mathlib.Core.Path.{_≡_};
 ghost use Prim.Native.Nat.{_≤_};
+ghost use Rattle.lit.specs.Lit.{litOf};
 ghost use Rattle.rules.specs.Environment.{held};
 ghost use Rattle.rules.specs.Door.{Promise};
 ghost use Rattle.rules.specs.Fresh as Fresh;
@@ -132,6 +135,14 @@ pub extern "C" fn ovenlute_fresh(width: u32, height: u32, pane: Pane) -> Made
     ensures { λ m. ⌜ Fresh.Promise (record { width = width; height = height; pane = pane }) m ⌝ }
 {
     fresh(width, height, pane)
+}
+
+// How many dots of a dashed line light up, for C.
+#[no_mangle]
+pub extern "C" fn ovenlute_lit(length: u32, pattern: u32) -> LitDots
+    ensures { λ r. ⌜ r ≡ litOf length pattern ⌝ }
+{
+    lit(length, pattern)
 }
 
 // The words for a number, for C.

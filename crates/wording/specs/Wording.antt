@@ -37,7 +37,7 @@ opcodes =
     22 says "the list ends inside the opcode" ∷
     23 says "a variable above 63" ∷
     24 says "a mode, type or condition that is not allowed" ∷
-    25 says "a coordinate, offset or position outside -32,768 to 32,767, or a radius outside 0 to 32,767" ∷
+    25 says "a coordinate or offset not -32,768 to 32,767, a radius not 0 to 32,767, a length above 65,536" ∷
     26 says "the divisor is zero" ∷
     27 says "a target that is not allowed" ∷
     28 says "a call with 16 returns stacked" ∷

@@ -45,7 +45,7 @@ fn opcode_words(number: u8) -> Words
         25 => told(
             number,
             25,
-            b"a coordinate, offset or position outside -32,768 to 32,767, or a radius outside 0 to 32,767",
+            b"a coordinate or offset not -32,768 to 32,767, a radius not 0 to 32,767, a length above 65,536",
         ),
         26 => told(number, 26, b"the divisor is zero"),
         27 => told(number, 27, b"a target that is not allowed"),
