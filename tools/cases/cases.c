@@ -176,6 +176,16 @@ static void run(void)
     print_screen();
 }
 
+/* ---- what lit dots print ---- */
+
+static void count_lit(char *line)
+{
+    uint32_t length = natural(&line), pattern = natural(&line);
+    struct afgis_lit_dots lit = afgis_lit(length, pattern);
+
+    printf("lit %d count %u\n", lit.number, lit.count);
+}
+
 /* ---- the file ---- */
 
 static int carry_out(char *line)
@@ -202,6 +212,8 @@ static int carry_out(char *line)
         take_list(line);
     else if (is(command, "run"))
         run();
+    else if (is(command, "lit"))
+        count_lit(line);
     else
         return 0;
     return 1;

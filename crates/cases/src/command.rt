@@ -1,5 +1,6 @@
 // Carries out one line of the file.
 use crate::fresh::fresh;
+use crate::lit_dots::lit;
 use crate::print;
 use crate::run::run;
 use crate::screen::SCREEN;
@@ -44,6 +45,7 @@ pub fn carry_out(
         Command::Budget => budget(line, desk),
         Command::List => list(line, desk, words),
         Command::Run => run(desk, words, screen),
+        Command::Lit => lit(line, desk),
         Command::Unknown => wrong(desk, Fault::Unknown),
     }
 }

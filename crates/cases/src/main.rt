@@ -4,6 +4,7 @@ mod command; // carries a line out
 mod fault; // says what is wrong with a line
 mod file; // goes through the file
 mod fresh; // makes a fresh environment
+mod lit_dots; // counts lit dots
 mod print; // writes text and numbers
 mod run; // runs the list
 mod screen; // clears and prints the screen

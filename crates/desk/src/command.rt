@@ -18,6 +18,7 @@ pub enum Command {
     Budget,
     List,
     Run,
+    Lit,
     Unknown,
 }
 
@@ -40,13 +41,14 @@ pub fn command_of(line: &[u8]) -> Command
 fn named(name: &[u8]) -> Command
     ensures { λ r. ⌜ r ≡ commandNamed (now (name .entry)) ⌝ }
 {
-    match place_in(b"fresh set bytes budget list run", name) {
+    match place_in(b"fresh set bytes budget list run lit", name) {
         0 => Command::Fresh,
         1 => Command::Set,
         2 => Command::Bytes,
         3 => Command::Budget,
         4 => Command::List,
         5 => Command::Run,
+        6 => Command::Lit,
         _ => Command::Unknown,
     }
 }
@@ -71,6 +73,7 @@ fn asked(command: Command) -> usize
         Command::Budget => 2,
         Command::List => 0,
         Command::Run => 1,
+        Command::Lit => 3,
         Command::Unknown => 0,
     }
 }

@@ -1,8 +1,8 @@
 -- Each number is the place of a name.
-use native.Mathlib.Omega.{arith}
+use Prim.Native.Nat.{zero-le}
 use Rattle.desk.specs.Commands.{commands, names, named}
 use Rattle.desk.specs.declared.command.Command.the-variants.{Unknown}
-use Rattle.text.proofs.Tables.{at-place, past}
+use Rattle.text.proofs.Tables.{at-place, past, more}
 use borrow.Author.Needs.{needs}
 use Rattle.desk.proofs.command.named.Statement.{statement}
 use Rattle.desk.proofs.command.named.Tie as tie
@@ -39,7 +39,14 @@ returns-6 c = at-place commands Unknown 5 (c .before .place-in .ensures) (c .mat
 
 returns-7 : tie.Need-returns-7
 unfolding named names
-returns-7 c = past commands Unknown (c .before .place-in .ensures) (omega (arith, c .match .rest))
+returns-7 c = at-place commands Unknown 6 (c .before .place-in .ensures) (c .match .keys7)
+
+returns-8 : tie.Need-returns-8
+unfolding named names
+returns-8 c =
+    let r = c .match .rest in
+    past commands Unknown (c .before .place-in .ensures)
+    (more 6 (more 5 (more 4 (more 3 (more 2 (more 1 (more 0 zero-le (r .0 .0 .0 .0 .0 .0 .1)) (r .0 .0 .0 .0 .0 .1)) (r .0 .0 .0 .0 .1)) (r .0 .0 .0 .1)) (r .0 .0 .1)) (r .0 .1)) (r .1))
 
 pub named-spec : {M : Type 1} → statement M
 named-spec =
@@ -53,4 +60,5 @@ named-spec =
     returns-4
     returns-5
     returns-6
-    returns-7)
+    returns-7
+    returns-8)
