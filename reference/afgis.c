@@ -1,7 +1,7 @@
 /*
- * AFGIS display lists by documents 01 and 02, in plain C. The sections follow 01's, with one for 02's circles and one for its
- * line pattern; a sentence in quotation marks is one of these papers' own. The condition numbers and RTRN's number come from
- * document 004.
+ * AFGIS display lists by documents 01 and 02, in plain C. The sections follow 01's, with one for 02's circles, one for its
+ * line pattern and one for its lit dots; a sentence in quotation marks is one of these papers' own. The condition numbers and
+ * RTRN's number come from document 004.
  */
 
 #include "afgis.h"
@@ -34,7 +34,7 @@ enum { DONE = 0 };
 /* The states of an environment besides 20 to 29. */
 enum { STATE_RUNNING = 0, STATE_ENDED = 1 };
 
-enum { MOST_WORDS = 65536, MOST_STEPS = 1000000, MOST_SIDE = 2048, VARIABLES = 64, RETURNS = 16 };
+enum { MOST_WORDS = 65536, MOST_STEPS = 1000000, MOST_SIDE = 2048, VARIABLES = 64, RETURNS = 16, MOST_DOTS = 65536 };
 
 /* What an opcode works on. */
 struct machine {
@@ -966,4 +966,21 @@ struct afgis_answer afgis_run(const uint16_t *list, size_t words, uint8_t *scree
     struct afgis_answer refused = { door(env, words, bytes, budget), 0, 0 };
 
     return refused.number != 0 ? refused : run_from_here(&m, budget);
+}
+
+/* ---- Lit dots, of 02's T-04 ---- */
+
+/* "A walk of every dot under T-03's rule". "A greater length is 25, count 0." */
+struct afgis_lit_dots afgis_lit(uint32_t length, uint32_t pattern)
+{
+    struct afgis_lit_dots answer = { 0, 0 };
+
+    if (length > MOST_DOTS) {
+        answer.number = OUT_OF_RANGE;
+        return answer;
+    }
+    for (uint32_t dot = 0; dot < length; dot++)
+        if (is_in_pattern(pattern, dot))
+            answer.count++;
+    return answer;
 }

@@ -29,6 +29,11 @@ struct afgis_answer {
     uint32_t steps;
 };
 
+struct afgis_lit_dots {
+    int number;
+    uint32_t count;                     /* how many dots light up */
+};
+
 /* Makes a fresh environment: 0, or 10 or 12 and an environment of zeros. */
 int afgis_fresh(uint32_t width, uint32_t height, uint32_t left, uint32_t top, uint32_t right, uint32_t bottom,
                 struct afgis_env *env);
@@ -36,5 +41,8 @@ int afgis_fresh(uint32_t width, uint32_t height, uint32_t left, uint32_t top, ui
 /* Runs a list: at most `budget` opcodes, painting on the screen and changing the environment. */
 struct afgis_answer afgis_run(const uint16_t *list, size_t words, uint8_t *screen, size_t bytes,
                               struct afgis_env *env, uint32_t budget);
+
+/* 02's T-04: how many dots of a dashed line light up, "from length in dots and pattern alone": 0 and the count, or 25 and 0. */
+struct afgis_lit_dots afgis_lit(uint32_t length, uint32_t pattern);
 
 #endif

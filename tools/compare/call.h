@@ -16,7 +16,7 @@ enum group {
     CALLS, LISTS, ENVIRONMENTS, BROKEN_FIELDS, SIZES, PANES, WINDOWS, MODES, BUDGETS, SCREENS,
     DOOR_PAIRS, OPCODE_PAIRS, SLICED, SLICES, FRESH_CALLS, NUMBERS, PLACES, MISNAMED, CLEARINGS, LINES, HALVES, CUTS,
     DASH_OPCODES, DASH_PATTERNS, DASH_LENGTHS, DASHES_X_AHEAD, DASHES_X_BACK, DASHES_Y_AHEAD, DASHES_Y_BACK,
-    REFUSED_LINES, FILLED_CIRCLES, OUTLINES, REFUSED_CIRCLES,
+    REFUSED_LINES, LIT_LENGTHS, LIT_PATTERNS, LIT_RUNS, LIT_LINES, FILLED_CIRCLES, OUTLINES, REFUSED_CIRCLES,
     GROUPS
 };
 
@@ -81,6 +81,13 @@ enum { CUT_NOWHERE, CUT_TO_NOTHING, CUT_START_LONG, CUT_START_OTHER, CUT_END_LON
 /* A line of type 1 that was drawn: by LINE or LINEV, or by one of the other four; and its pattern's bits. */
 enum { DASH_LINE, DASH_LINETO = 2 };
 enum { PATTERN_NONE, PATTERN_ALL, PATTERN_LOWEST, PATTERN_HIGHEST, PATTERN_OTHER };
+
+/* What lit dots were counted for: a length, the runs of 32 in it and what is left, and a line by its way. */
+enum {
+    LENGTH_NONE, LENGTH_TO_200, LENGTH_BETWEEN, LENGTH_LONGEST_BUT_ONE, LENGTH_LONGEST, LENGTH_TOO_LONG, LENGTH_LARGEST
+};
+enum { RUNS_WHOLE, RUNS_NONE, RUNS_AND_LEFTOVER };
+enum { LIT_X_AHEAD, LIT_X_BACK, LIT_Y_AHEAD, LIT_Y_BACK };
 
 /* Which of its dots are drawable, for each of its ways: all, none, or not those at the first point given, or at the second;
    whether the window takes more away than the pane does; and the number of the first that is, where it is not 0. */

@@ -6,6 +6,7 @@
 #include "check.h"
 #include "count.h"
 #include "libc.h"
+#include "lit.h"
 #include "make.h"
 #include "random.h"
 #include "shrink.h"
@@ -201,6 +202,7 @@ int main(int count, char **arguments)
     check_huge_lengths();
     while (calls_counted() < calls)
         check_something();
+    check_lit();
     never = print_counts();
     printf("seed %llu, %llu calls, %llu differences, %d kinds never met\n", seed,
            (unsigned long long)calls_counted(), differences_counted(), never);

@@ -9,6 +9,8 @@
 
 enum { MOST_MEMBERS = 20, STEPS_FOLLOWED = 200 };
 
+#define PATTERNS "00000000", "FFFFFFFF", "00000001", "80000000", "other"
+
 #define DASH_PARTS { "whole", "outside", "cut at the first point", "cut at the second point", "cut by the window", \
                      "seen from 1 to 31 on", "seen from 32 on", "seen from above 32 on" }
 
@@ -52,13 +54,17 @@ static const struct {
     [CUTS] = { "lines cut", { "nowhere", "to nothing", "at the start by the long axis", "at the start by the other",
                               "at the end by the long axis", "at the end by the other" } },
     [DASH_OPCODES] = { "dashed lines", { "LINE", "LINEV", "LINETO", "LINETOV", "LINETOR", "LINETORV" } },
-    [DASH_PATTERNS] = { "dashed lines by pattern", { "00000000", "FFFFFFFF", "00000001", "80000000", "other" } },
+    [DASH_PATTERNS] = { "dashed lines by pattern", { PATTERNS } },
     [DASH_LENGTHS] = { "dashed lines by dots", { "1", "2", "31", "32", "33", "64", "65536" } },
     [DASHES_X_AHEAD] = { "dashed lines, x ahead", DASH_PARTS },
     [DASHES_X_BACK] = { "dashed lines, x back", DASH_PARTS },
     [DASHES_Y_AHEAD] = { "dashed lines, y ahead", DASH_PARTS },
     [DASHES_Y_BACK] = { "dashed lines, y back", DASH_PARTS },
     [REFUSED_LINES] = { "lines refused", { "24 type 2", "24 type -1", "24 low word 1", "25 type 1" } },
+    [LIT_LENGTHS] = { "lit dots by length", { "0", "1 to 200", "201 to 65534", "65535", "65536", "65537", "2^32 - 1" } },
+    [LIT_PATTERNS] = { "lit dots by pattern", { PATTERNS } },
+    [LIT_RUNS] = { "lit dots by runs", { "whole runs alone", "less than a run", "both" } },
+    [LIT_LINES] = { "lines by lit dots", { "x ahead", "x back", "y ahead", "y back" } },
     [FILLED_CIRCLES] = { "filled circles", { "radius 0", "radius 1", "radius 32767", "whole", "cut", "outside",
                                              "over all that is drawable", "cut by the window", "from far outside" } },
     [OUTLINES] = { "outlines", { "radius 0", "radius 1", "radius 32767", "whole", "cut", "outside",

@@ -38,7 +38,7 @@ static int opcode_kind(uint16_t opcode)
     return opcode < 0x007C ? opcode - 0x0074 + DASH_LINE : opcode - 0x007C + DASH_LINETO;
 }
 
-static int pattern_kind(uint32_t pattern)
+int pattern_kind(uint32_t pattern)
 {
     switch (pattern) {
     case 0: return PATTERN_NONE;

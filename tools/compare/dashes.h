@@ -4,6 +4,9 @@
 
 #include "afgis.h"
 
+/* Which kind of pattern it is. */
+int pattern_kind(uint32_t pattern);
+
 /* Counts the line of an opcode, if it is one of type 1 that was drawn, or one that was refused with 24 or 25: the environment
    before it and after, and what was answered. */
 void count_dash(const uint16_t *opcode, const struct afgis_env *before, const struct afgis_env *after,
