@@ -22,7 +22,7 @@ use Rattle.lines.proofs.Patterns.{along, counted}
 use Rattle.lit.specs.Lit.{countBelow, litAmong, litOf}
 use Rattle.lit.specs.Numbering.{Has}
 use Rattle.lit.proofs.Counting.{count-back}
-use Rattle.lit.proofs.Numberings.{as-many}
+use Rattle.lit.proofs.Gathering.{as-many}
 
 module _ (l : Line) where
   abbrev n : ℕ

@@ -1,8 +1,9 @@
 -- What follows from the rules:
 pub mod Answers
 pub mod DashedLines
-pub mod Numberings
+pub mod OneNumber
 -- The laws that proofs cite:
 pub mod Counting
+pub mod Gathering
 pub mod Runs
 pub mod Leftover

@@ -1,18 +1,15 @@
--- A shape has one number of points; and one that is made of dots that differ has as many points as dots.
+-- A shape has one number of points: two lists that hold each of them once are equally long.
 use mathlib.Core.Path.{_≡_, refl, sym, ap, _∙_, subst}
 use mathlib.Core.Bool.{Bool, true, false, cond, not, _&&_, _||_}
 use mathlib.Core.List.{List, [], _∷_}
-use Prim.Native.Nat.{ℕ, zero, suc, _+_, _<_}
-use native.Mathlib.Omega.{arith}
+use Prim.Native.Nat.{ℕ, suc}
 use lib.IntN.{ℤ}
 use lib.Dec.{T}
 use lib.ListN.{length}
 use Rattle.raster.specs.declared.dots.Dot.{Dot}
-use Rattle.raster.specs.Shapes.{Shape, dot, someBelow}
-use Rattle.raster.proofs.Tests.{yes-or}
-use Rattle.raster.proofs.SomeBelow.{some-none}
+use Rattle.raster.specs.Shapes.{Shape, dot}
+use Rattle.raster.proofs.Tests.{yes-or, and-true}
 use Rattle.raster.proofs.Points.{dot-self, dot-same}
-use Rattle.lit.specs.Lit.{countBelow}
 use Rattle.lit.specs.Numbering.{among, Once, Has}
 
 holds : (t : Bool) → t ≡ true → T t
@@ -33,11 +30,7 @@ rest d es x y o = by (dot d x y) refl
   where
     by : (t : Bool) → dot d x y ≡ t → among es x y ≡ ((t || among es x y) && not t)
     by true e = sym (ap (λ (p : Dot). among es (p .x) (p .y)) (dot-same d x y (holds (dot d x y) e))) ∙ o
-    by false e = whole (among es x y)
-      where
-        whole : (b : Bool) → b ≡ (b && true)
-        whole true = refl
-        whole false = refl
+    by false e = sym (and-true (among es x y))
 
 -- a dot e that is not d stays
 stays : (d e : Dot) (b : Bool) (x y : ℤ) → dot d (e .x) (e .y) ≡ false → (dot e x y || (b && not (dot d x y))) ≡ ((dot e x y || b) && not (dot d x y))
@@ -92,60 +85,3 @@ same-length (d ∷ ds) es o q e =
 -- no second number fits
 pub one-number : {S : Shape} {a b : ℕ} → Has S a → Has S b → a ≡ b
 one-number h k = sym (h .many) ∙ same-length (h .points) (k .points) (h .once) (k .once) (λ x y. sym (h .each x y) ∙ k .each x y) ∙ k .many
-
--- ---- dots that differ, of which p says which there are
-module _ (d : ℕ → Dot) (p : ℕ → Bool) where
-  abbrev shape : ℕ → Shape
-  shape n = λ x y. someBelow n (λ k. p k && dot (d k) x y)
-
-  abbrev gathered : ℕ → List Dot
-  gathered zero = []
-  gathered (suc k) = cond (p k) (d k ∷ gathered k) (gathered k)
-
-  each-one : (n : ℕ) (x y : ℤ) → shape n x y ≡ among (gathered n) x y
-  unfolding someBelow
-  each-one zero x y = refl
-  each-one (suc n) x y = ap (λ (b : Bool). b || (p n && dot (d n) x y)) (each-one n x y) ∙ by (p n)
-    where
-      turned : (a b : Bool) → (a || b) ≡ (b || a)
-      turned true true = refl
-      turned true false = refl
-      turned false true = refl
-      turned false false = refl
-
-      by : (t : Bool) → (among (gathered n) x y || (t && dot (d n) x y)) ≡ among (cond t (d n ∷ gathered n) (gathered n)) x y
-      by true = turned (among (gathered n) x y) (dot (d n) x y)
-      by false = turned (among (gathered n) x y) false
-
-  as-counted : (n : ℕ) → length (gathered n) ≡ countBelow n p
-  unfolding countBelow
-  as-counted zero = refl
-  as-counted (suc n) = by (p n) (as-counted n)
-    where
-      by : (t : Bool) → length (gathered n) ≡ countBelow n p → length (cond t (d n ∷ gathered n) (gathered n)) ≡ countBelow n p + cond t 1 0
-      by true e = omega arith
-      by false e = omega arith
-
-  abbrev Differ : ℕ → Type 0
-  Differ n = (j k : ℕ) → j < k → k < n → dot (d j) (d k .x) (d k .y) ≡ false
-
-  none-twice : (n : ℕ) → Differ n → Once (gathered n)
-  none-twice zero a = tt
-  none-twice (suc n) a = by (p n) (none-twice n (λ j k h l. a j k h (omega arith)))
-    where
-      nowhere : (k : ℕ) → k < n → (p k && dot (d k) (d n .x) (d n .y)) ≡ false
-      nowhere k h = neither (p k) (a k n h (omega arith))
-        where
-          neither : (t : Bool) → dot (d k) (d n .x) (d n .y) ≡ false → (t && dot (d k) (d n .x) (d n .y)) ≡ false
-          neither true e = e
-          neither false e = refl
-
-      new : among (gathered n) (d n .x) (d n .y) ≡ false
-      new = sym (each-one n (d n .x) (d n .y)) ∙ some-none n (λ k. p k && dot (d k) (d n .x) (d n .y)) nowhere
-
-      by : (t : Bool) → Once (gathered n) → Once (cond t (d n ∷ gathered n) (gathered n))
-      by true o = (new, o)
-      by false o = o
-
-  pub as-many : (n : ℕ) → Differ n → Has (shape n) (countBelow n p)
-  as-many n a = record { points = gathered n; each = each-one n; once = none-twice n a; many = as-counted n }
