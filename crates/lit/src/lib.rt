@@ -12,7 +12,7 @@ pub struct LitDots {
 // The longest line, in dots.
 const LONGEST: u32 = 65536;
 
-// The dots of a run: from one of them to the next the pattern is used once.
+// A run: as many dots as the pattern has bits.
 const RUN: u32 = 32;
 
 // Whole runs times the ones in the pattern, plus the ones among the leftover low bits.
