@@ -5,7 +5,6 @@ use Prim.Native.Nat.{ℕ, suc, _-_, _^_, _<_, _≤_}
 use native.Mathlib.Omega.{arith}
 use lib.IntN.{ℤ, pos, negsuc}
 use lib.Signed.{mag}
-use borrow.Author.Tests.{le-ltb}
 use Rattle.numbers.specs.Coordinate.{inWord}
 use Rattle.numbers.proofs.Coordinates.{within-mag}
 use Rattle.raster.specs.declared.dots.Dot.{Dot}
@@ -21,6 +20,7 @@ use Rattle.lines.specs.Dashes.{lit, numberOf, dashed}
 use Rattle.lines.proofs.Patterns.{along, counted}
 use Rattle.lit.specs.Lit.{countBelow, litAmong, litOf}
 use Rattle.lit.specs.Numbering.{Has}
+use Rattle.lit.proofs.Limit.{within}
 use Rattle.lit.proofs.Counting.{count-back}
 use Rattle.lit.proofs.Gathering.{as-many}
 
@@ -85,4 +85,4 @@ short l w = omega (arith, gap-fits (l .from .x) (l .to .x) (w .from .0) (w .to .
 
 -- T-04: it is not too long, and its dots, clipping aside, number `lit` of its length in dots and the pattern
 pub line-lit : (o : ℕ) (l : Line) → WordEnds l → (litOf (suc (long l)) o .number ≡ 0) × Has (dashed o l) (litOf (suc (long l)) o .count)
-line-lit o l w = rw (le-ltb 65536 (suc (long l)) (short l w)) (refl, dashed-has l o)
+line-lit o l w = rw (within (suc (long l)) o (short l w)) (refl, dashed-has l o)

@@ -1,6 +1,6 @@
 -- A shape that is made of dots that differ has as many points as dots.
 use mathlib.Core.Path.{_≡_, refl, sym, ap, _∙_}
-use mathlib.Core.Bool.{Bool, true, false, cond, _&&_, _||_}
+use mathlib.Core.Bool.{Bool, true, false, cond, _&&_, _||_, and-false, or-false, or-comm}
 use mathlib.Core.List.{List, [], _∷_}
 use Prim.Native.Nat.{ℕ, zero, suc, _+_, _<_}
 use native.Mathlib.Omega.{arith}
@@ -26,15 +26,9 @@ module _ (d : ℕ → Dot) (p : ℕ → Bool) where
   each-one zero x y = refl
   each-one (suc n) x y = ap (λ (b : Bool). b || (p n && dot (d n) x y)) (each-one n x y) ∙ by (p n)
     where
-      turned : (a b : Bool) → (a || b) ≡ (b || a)
-      turned true true = refl
-      turned true false = refl
-      turned false true = refl
-      turned false false = refl
-
       by : (t : Bool) → (among (gathered n) x y || (t && dot (d n) x y)) ≡ among (cond t (d n ∷ gathered n) (gathered n)) x y
-      by true = turned (among (gathered n) x y) (dot (d n) x y)
-      by false = turned (among (gathered n) x y) false
+      by true = or-comm (among (gathered n) x y) (dot (d n) x y)
+      by false = or-false (among (gathered n) x y)
 
   as-counted : (n : ℕ) → length (gathered n) ≡ countBelow n p
   unfolding countBelow
@@ -53,11 +47,7 @@ module _ (d : ℕ → Dot) (p : ℕ → Bool) where
   none-twice (suc n) a = by (p n) (none-twice n (λ j k h l. a j k h (omega arith)))
     where
       nowhere : (k : ℕ) → k < n → (p k && dot (d k) (d n .x) (d n .y)) ≡ false
-      nowhere k h = neither (p k) (a k n h (omega arith))
-        where
-          neither : (t : Bool) → dot (d k) (d n .x) (d n .y) ≡ false → (t && dot (d k) (d n .x) (d n .y)) ≡ false
-          neither true e = e
-          neither false e = refl
+      nowhere k h = ap (λ (b : Bool). p k && b) (a k n h (omega arith)) ∙ and-false (p k)
 
       new : among (gathered n) (d n .x) (d n .y) ≡ false
       new = sym (each-one n (d n .x) (d n .y)) ∙ some-none n (λ k. p k && dot (d k) (d n .x) (d n .y)) nowhere

@@ -1,4 +1,5 @@
 -- What follows from the rules:
+pub mod Limit
 pub mod Answers
 pub mod DashedLines
 pub mod OneNumber

@@ -10,12 +10,12 @@ unfoldable pub countBelow : ℕ → (ℕ → Bool) → ℕ
 countBelow zero p = 0
 countBelow (suc k) p = countBelow k p + cond (p k) 1 0
 
--- of so many dots those that the pattern paints
+-- a walk of so many dots that counts those that the pattern paints
 abbrev pub litAmong : ℕ → ℕ → ℕ
 litAmong length pattern = countBelow length (lit pattern)
 
 -- a length above 65,536 is 25, count 0
-abbrev pub litOf : ℕ → ℕ → LitDots
+unfoldable pub litOf : ℕ → ℕ → LitDots
 litOf length pattern =
     cond (ltb 65536 length)
     (record { number = 25; count = 0 })
