@@ -137,7 +137,7 @@ struct ovenlute_done ovenlute_run(const uint16_t *list, size_t words, uint8_t *s
    - ovenlute_lit(100, 0x0F0F0F0F) answers 0 and 52: three runs of 16, and 4 of the leftover 4 dots.
    - The line from (x0, y0) to (x1, y1) is n + 1 dots long, n the larger of the two absolute differences. So no line of a list is
      refused. The count is that of the dots which a line of type 1 paints with this pattern where nothing of it is cut.
-   - Any pattern and any length may be given; no dots are none lit. Nothing is walked: 65,536 dots take as long as one. */
+   - Any pattern and any length may be given; with length 0 the count is 0. Nothing is walked: 65,536 dots take as long as one. */
 struct ovenlute_lit_dots ovenlute_lit(uint32_t length, uint32_t pattern);
 
 /* The words for a number that comes back. */
