@@ -82,19 +82,19 @@ enum { CUT_NOWHERE, CUT_TO_NOTHING, CUT_START_LONG, CUT_START_OTHER, CUT_END_LON
 enum { DASH_LINE, DASH_LINETO = 2 };
 enum { PATTERN_NONE, PATTERN_ALL, PATTERN_LOWEST, PATTERN_HIGHEST, PATTERN_OTHER };
 
-/* What lit dots were counted for: a length, the runs of 32 in it and what is left, and a line by its way. */
-enum {
-    LENGTH_NONE, LENGTH_TO_200, LENGTH_BETWEEN, LENGTH_LONGEST_BUT_ONE, LENGTH_LONGEST, LENGTH_TOO_LONG, LENGTH_LARGEST
-};
-enum { RUNS_WHOLE, RUNS_NONE, RUNS_AND_LEFTOVER };
-enum { LIT_X_AHEAD, LIT_X_BACK, LIT_Y_AHEAD, LIT_Y_BACK };
-
 /* Which of its dots are drawable, for each of its ways: all, none, or not those at the first point given, or at the second;
    whether the window takes more away than the pane does; and the number of the first that is, where it is not 0. */
 enum {
     DASH_WHOLE, DASH_UNSEEN, DASH_CUT_AT_FIRST, DASH_CUT_AT_SECOND, DASH_CUT_BY_WINDOW, DASH_FROM_1, DASH_FROM_32,
     DASH_FROM_ABOVE_32
 };
+
+/* What lit dots were counted for: a length, the runs of 32 in it and what is left, and a line by its way. */
+enum {
+    LENGTH_NONE, LENGTH_TO_200, LENGTH_BETWEEN, LENGTH_LONGEST_BUT_ONE, LENGTH_LONGEST, LENGTH_TOO_LONG, LENGTH_LARGEST
+};
+enum { RUNS_WHOLE, RUNS_NONE, RUNS_AND_LEFTOVER };
+enum { LIT_X_AHEAD, LIT_X_BACK, LIT_Y_AHEAD, LIT_Y_BACK };
 
 /* What was wrong about a line: its type, or only its points. */
 enum { REFUSED_LINE_TYPE_2, REFUSED_LINE_TYPE_MINUS_1, REFUSED_LINE_LOW_WORD_1, REFUSED_DASH_POINT };
