@@ -10,7 +10,7 @@ use lib.Dec.{T, leb, leb→le}
 use lib.ListN.{replicate}
 use Rattle.raster.specs.declared.dots.Dot.{Dot}
 use Rattle.raster.specs.declared.frame.Frame.{Frame}
-use Rattle.raster.specs.Shapes.{eqZ, gap, dot}
+use Rattle.raster.specs.Shapes.{topLeft, eqZ, gap, dot}
 use Rattle.raster.specs.Frame.{drawable}
 use Rattle.raster.specs.Paint.{recolourFrom, paint}
 use Rattle.raster.proofs.Tests.{same, both, left, right, and-true}
@@ -71,6 +71,7 @@ abbrev five : Frame
 five =
     record {
       bounds = record { width = 5; height = 5; pane = record { left = 0; top = 0; right = 4; bottom = 4 } };
+      origin = topLeft;
       mode = 0;
       window = record { x0 = pos 0; y0 = pos 0; x1 = pos 4; y1 = pos 4 };
     }

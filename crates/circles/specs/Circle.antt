@@ -2,7 +2,8 @@
 use mathlib.Core.Bool.{Bool, true, false, not, _&&_, _||_}
 use lib.IntN.{ℤ, pos, _+ℤ_, _-ℤ_, _*ℤ_}
 use lib.Signed.{leZ}
-use Rattle.raster.specs.Shapes.{Shape}
+use Rattle.raster.specs.declared.dots.Dot.{Dot}
+use Rattle.raster.specs.Shapes.{Shape, shifted}
 use Rattle.circles.specs.declared.circle.Circle.{Circle}
 
 abbrev pub square : ℤ → ℤ
@@ -24,3 +25,7 @@ outline k = edge (disc k)
 abbrev pub circle : Bool → Circle → Shape
 circle true k = disc k
 circle false k = outline k
+
+-- the circle with its centre moved by o
+abbrev pub circleBy : Dot → Circle → Circle
+circleBy o k = record { centre = shifted (k .centre) o; radius = k .radius }

@@ -4,6 +4,7 @@ pub mod Floor
 pub mod Directions
 pub mod LineEnds
 pub mod Patterns
+pub mod Moved
 pub mod Pictures
 -- The laws that proofs cite, here and in the crates above:
 pub mod Sides

@@ -1,16 +1,15 @@
 -- A line's first dot is its start and its last dot its end; a line of one dot is that dot.
 use mathlib.Core.Path.{_≡_, refl, sym, ap, ap₂, _∙_, subst}
 use mathlib.Core.Bool.{Bool, true, false, cond}
-use Prim.Native.Nat.{ℕ, suc, _+_, _<_, _≤_, max}
+use Prim.Native.Nat.{ℕ, suc, _≤_, max}
 use native.Mathlib.Omega.{arith}
-use native.Mathlib.Decide.{decLt}
-use lib.IntN.{ℤ, pos, negsuc, subℕ, _+ℤ_, _-ℤ_, +ℤ-idr, +ℤ-comm, -ℤ-+ℤ-cancel}
-use lib.Signed.{leZ, nonNeg, pos-natAbs}
-use lib.Dec.{T, leb, leb·suc-suc}
-use borrow.Author.Tests.{leb-true, leb-false, le-leb, lt-leb}
+use lib.IntN.{ℤ, pos, _+ℤ_, _-ℤ_, +ℤ-idr, +ℤ-comm, -ℤ-+ℤ-cancel}
+use lib.Signed.{leZ, pos-natAbs}
+use lib.Dec.{T, leb}
+use borrow.Author.Tests.{leb-true, leb-false}
 use Rattle.raster.specs.declared.dots.Dot.{Dot}
 use Rattle.raster.specs.Shapes.{gap, dot, someBelow}
-use Rattle.raster.proofs.Coordinates.{sub-ge, sub-lt, pos-minus, neg-minus}
+use Rattle.raster.proofs.Coordinates.{rises}
 use Rattle.lines.specs.declared.line.Line.{Line}
 use Rattle.lines.specs.Line.{long, flat, rising, start, finish, side, dotFrom, lineDot, line}
 use Rattle.lines.proofs.Sides.{side-first, side-last}
@@ -29,19 +28,6 @@ first-dot l =
     (λ i. record { x = still (p .x) (flat l) n (q .x -ℤ p .x) .0 i; y = still (p .y) (flat l) n (q .y -ℤ p .y) .1 i })
 
 -- the whole way
-sign : (x y : ℕ) → nonNeg (subℕ x y) ≡ leb y x
-sign x y = by (decLt x y)
-  where
-    by : Dec (x < y) → nonNeg (subℕ x y) ≡ leb y x
-    by (yes h) = ap nonNeg (sub-lt x y h) ∙ sym (lt-leb y x h)
-    by (no h) = ap nonNeg (sub-ge x y (omega arith)) ∙ sym (le-leb y x (omega arith))
-
-rises : (a b : ℤ) → leZ a b ≡ nonNeg (b -ℤ a)
-rises (pos a) (pos b) = sym (ap nonNeg (pos-minus b a) ∙ sign b a)
-rises (pos a) (negsuc b) = sym (ap nonNeg (neg-minus b a ∙ sub-lt 0 (suc b + a) (omega arith)))
-rises (negsuc a) (pos b) = refl
-rises (negsuc a) (negsuc b) = sym (sign (suc a) (suc b) ∙ leb·suc-suc b a)
-
 whole : (a b : ℤ) → a +ℤ (b -ℤ a) ≡ b
 whole a b = +ℤ-comm a (b -ℤ a) ∙ -ℤ-+ℤ-cancel b a
 

@@ -5,7 +5,7 @@ use Prim.Native.Nat.{ℕ}
 use lib.IntN.{pos}
 use lib.ListN.{replicate}
 use Rattle.raster.specs.declared.frame.Frame.{Frame}
-use Rattle.raster.specs.Shapes.{someBelow}
+use Rattle.raster.specs.Shapes.{topLeft, someBelow}
 use Rattle.raster.specs.Frame.{drawable}
 use Rattle.raster.specs.Paint.{recolourFrom, paint}
 use Rattle.lines.specs.declared.line.Line.{Line}
@@ -17,6 +17,7 @@ abbrev fresh : ℕ → Frame
 fresh l =
     record {
       bounds = record { width = 5; height = 3; pane = record { left = l; top = 0; right = 4; bottom = 2 } };
+      origin = topLeft;
       mode = 0;
       window = record { x0 = pos 0; y0 = pos 0; x1 = pos 4; y1 = pos 2 };
     }

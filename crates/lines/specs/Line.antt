@@ -5,7 +5,7 @@ use lib.IntN.{ℤ, pos, negsuc, _+ℤ_, _-ℤ_, _*ℤ_}
 use lib.Signed.{leZ}
 use lib.Dec.{leb}
 use Rattle.raster.specs.declared.dots.Dot.{Dot}
-use Rattle.raster.specs.Shapes.{Shape, gap, dot, someBelow}
+use Rattle.raster.specs.Shapes.{Shape, gap, dot, shifted, someBelow}
 use Rattle.lines.specs.declared.line.Line.{Line}
 
 -- n, the larger of the two absolute differences
@@ -51,3 +51,7 @@ lineDot l k = dotFrom (flat l) (long l) (start l) (finish l) k
 -- the dots for k from 0 to n
 unfoldable pub line : Line → Shape
 line l = λ x y. someBelow (suc (long l)) (λ k. dot (lineDot l k) x y)
+
+-- the line with both ends moved by o
+abbrev pub lineBy : Dot → Line → Line
+lineBy o l = record { from = shifted (l .from) o; to = shifted (l .to) o }

@@ -5,8 +5,8 @@ use Prim.Native.Nat.{ℕ, zero, suc, _+_, _-_, _<_, _≤_}
 use native.Mathlib.Omega.{arith}
 use native.Mathlib.Decide.{decLt}
 use lib.IntN.{ℤ, pos, negsuc, natAbs, subℕ, _+ℤ_, _-ℤ_}
-use lib.Signed.{mag, leZ}
-use lib.Dec.{leb, eqb, leb→le, le→leb, eqb→eq}
+use lib.Signed.{mag, leZ, nonNeg}
+use lib.Dec.{leb, eqb, leb→le, le→leb, eqb→eq, leb·suc-suc}
 use mir.Syntax.{w32}
 use mir.Val.{toZ, ofZ}
 use mir.Facts.{toZ-ofZ}
@@ -41,20 +41,34 @@ sub-same x y u v e = by (decLt x y)
     by (yes h) = sub-lt x y h ∙ ap negsuc (omega arith) ∙ sym (sub-lt u v (omega arith))
     by (no h) = sub-ge x y (omega arith) ∙ ap pos (omega arith) ∙ sym (sub-ge u v (omega arith))
 
-pub pos-minus : (n k : ℕ) → pos n -ℤ pos k ≡ subℕ n k
+pos-minus : (n k : ℕ) → pos n -ℤ pos k ≡ subℕ n k
 pos-minus n zero = ap pos (omega arith) ∙ sym (sub-ge n 0 (omega arith))
 pos-minus n (suc k) = refl
 
-pub neg-minus : (n k : ℕ) → negsuc n -ℤ pos k ≡ subℕ 0 (suc n + k)
+neg-minus : (n k : ℕ) → negsuc n -ℤ pos k ≡ subℕ 0 (suc n + k)
 neg-minus n zero = sub-same 0 (suc n) 0 (suc n + 0) (omega arith)
 neg-minus n (suc k) = sym (sub-lt 0 (suc n + suc k) (omega arith) ∙ ap negsuc (omega arith))
 
+-- ---- order, by the sign of the difference
+sign : (x y : ℕ) → nonNeg (subℕ x y) ≡ leb y x
+sign x y = by (decLt x y)
+  where
+    by : Dec (x < y) → nonNeg (subℕ x y) ≡ leb y x
+    by (yes h) = ap nonNeg (sub-lt x y h) ∙ sym (lt-leb y x h)
+    by (no h) = ap nonNeg (sub-ge x y (omega arith)) ∙ sym (le-leb y x (omega arith))
+
+pub rises : (a b : ℤ) → leZ a b ≡ nonNeg (b -ℤ a)
+rises (pos a) (pos b) = sym (ap nonNeg (pos-minus b a) ∙ sign b a)
+rises (pos a) (negsuc b) = sym (ap nonNeg (neg-minus b a ∙ sub-lt 0 (suc b + a) (omega arith)))
+rises (negsuc a) (pos b) = refl
+rises (negsuc a) (negsuc b) = sym (sign (suc a) (suc b) ∙ leb·suc-suc b a)
+
 -- ---- up and down again, and down and up
-down-biased : (z : ℤ) → Coord z → subℕ (biased z) bias ≡ z
+pub down-biased : (z : ℤ) → Coord z → subℕ (biased z) bias ≡ z
 down-biased (pos n) h = sub-ge (n + bias) bias (omega arith) ∙ ap pos (omega arith)
 down-biased (negsuc n) h = let l = h .small in sub-lt (bias - suc n) bias (omega arith) ∙ ap negsuc (omega arith)
 
-biased-down : (n : ℕ) → biased (subℕ n bias) ≡ n
+pub biased-down : (n : ℕ) → biased (subℕ n bias) ≡ n
 biased-down n = by (decLt n bias)
   where
     by : Dec (n < bias) → biased (subℕ n bias) ≡ n

@@ -6,6 +6,8 @@ pub mod Tests
 pub mod Points
 pub mod Recolour
 pub mod Coordinates
+pub mod Words
+pub mod Moved
 pub mod Rectangles
 pub mod Pixels
 pub mod SomeBelow

@@ -12,10 +12,12 @@ use lib.Seq.{ext-getD}
 use Rattle.raster.specs.declared.frame.Bounds.{Bounds}
 use Rattle.raster.specs.declared.frame.Window.{Window}
 use Rattle.raster.specs.declared.frame.Frame.{Frame}
-use Rattle.raster.specs.Shapes.{Shape}
-use Rattle.raster.specs.Frame.{within, onScreen, inPane, inWindow, drawable}
+use Rattle.raster.specs.declared.dots.Dot.{Dot}
+use Rattle.raster.specs.Shapes.{Shape, topLeft, movedBy}
+use Rattle.raster.specs.Frame.{within, onScreen, inPane, inWindow, inClip, drawable}
 use Rattle.raster.specs.Paint.{columnOf, rowOf, hit, paint}
 use Rattle.raster.proofs.Tests.{left, right, or-elim, T-false, and-or}
+use Rattle.raster.proofs.Moved.{not-moved}
 use Rattle.raster.proofs.Recolour.{length-recolour, getD-recolour, only, agree, twice, none}
 
 -- ---- every byte
@@ -50,7 +52,7 @@ module _ (f : Frame) (S : Shape) (c : ℕ) (s : List ℕ) where
 pub drawable-pixel : (f : Frame) (x y : ℤ) → T (drawable f x y) → T (onScreen (f .bounds) x y) × T (inPane (f .bounds) x y)
 unfolding drawable
 drawable-pixel f x y t =
-    let p = left (onScreen (f .bounds) x y && inPane (f .bounds) x y) (eqb (f .mode) 0 || inWindow (f .window) x y) t in
+    let p = left (onScreen (f .bounds) x y && inPane (f .bounds) x y) (eqb (f .mode) 0 || inClip f x y) t in
     (left (onScreen (f .bounds) x y) (inPane (f .bounds) x y) p, right (onScreen (f .bounds) x y) (inPane (f .bounds) x y) p)
 
 hit-pane : (f : Frame) (S : Shape) (k : ℕ) → T (hit f S k) → T (inPane (f .bounds) (columnOf (f .bounds) k) (rowOf (f .bounds) k))
@@ -70,11 +72,20 @@ none-within a b z l t =
     let past : b <ℤ z = <ℤ-≤ℤ-trans {b = a} (record { lt = l }) (record { le = left (leZ a z) (leZ z b) t }) in
     clashℤ past (record { le = right (leZ a z) (leZ z b) t })
 
--- the origin is (0, 0): modes 1 and 2 ask the same
-pub modes-agree : (b : Bounds) (w : Window) (x y : ℤ)
-    → drawable (record { bounds = b; mode = 1; window = w }) x y ≡ drawable (record { bounds = b; mode = 2; window = w }) x y
+-- where the origin is (0, 0), it stands as it was given, in mode 1 as in mode 2
+pub drawable-without : (f : Frame) → f .origin ≡ topLeft → (x y : ℤ)
+    → drawable f x y ≡ (onScreen (f .bounds) x y && inPane (f .bounds) x y && (eqb (f .mode) 0 || inWindow (f .window) x y))
 unfolding drawable
-modes-agree b w x y = refl
+drawable-without f h x y =
+    ap (λ (S : Shape). onScreen (f .bounds) x y && inPane (f .bounds) x y && (eqb (f .mode) 0 || S x y)) (by (eqb (f .mode) 1))
+  where
+    by : (t : Bool) → cond t (movedBy (f .origin) (inWindow (f .window))) (inWindow (f .window)) ≡ inWindow (f .window)
+    by true = ap (λ (o : Dot). movedBy o (inWindow (f .window))) h ∙ not-moved (inWindow (f .window))
+    by false = refl
+
+pub modes-agree : (b : Bounds) (w : Window) (x y : ℤ)
+    → drawable (record { bounds = b; origin = topLeft; mode = 1; window = w }) x y ≡ drawable (record { bounds = b; origin = topLeft; mode = 2; window = w }) x y
+modes-agree b w x y = drawable-without _ refl x y ∙ sym (drawable-without _ refl x y)
 
 -- it is empty where x0 is above x1, or y0 above y1
 pub empty-window : (w : Window) (x y : ℤ) → T (ltZ (w .x1) (w .x0) || ltZ (w .y1) (w .y0)) → T (inWindow w x y) → ⊥

@@ -1,23 +1,27 @@
 -- The drawable pixels are those of `rectOf`, and it has room in the frame's screen.
 use mathlib.Core.Path.{_≡_, ap, ap₂, _∙_}
-use mathlib.Core.Bool.{Bool, true, false, _&&_, _||_}
+use mathlib.Core.Bool.{Bool, true, false, cond, _&&_, _||_}
 use mathlib.Core.List.{List}
 use Prim.Native.Nat.{ℕ, _+_, _-_, _*_, _<_, _≤_, min, max}
 use native.Mathlib.Omega.{arith}
 use native.Mathlib.Nat.{mul-le-mul-right}
-use lib.IntN.{ℤ, pos}
+use lib.IntN.{ℤ, pos, _+ℤ_}
 use lib.Dec.{T, leb, ltb, eqb, leb→le, le→leb}
 use lib.ListN.{length}
 use borrow.Author.Tests.{le-leb, lt-ltb}
 use Rattle.raster.specs.declared.frame.Bounds.{Bounds}
 use Rattle.raster.specs.declared.frame.Window.{Window}
 use Rattle.raster.specs.declared.frame.Frame.{Frame}
+use Rattle.raster.specs.declared.dots.Dot.{Dot}
 use Rattle.raster.specs.declared.rect.Rect.{Rect}
-use Rattle.raster.specs.Frame.{within, onScreen, inPane, inWindow, drawable, Coord, Sound, Sane, Fitting}
+use Rattle.raster.specs.Shapes.{movedBy}
+use Rattle.raster.specs.Frame.{within, onScreen, inPane, inWindow, inClip, drawable, Coord, Sound, Sane, Fitting}
 use Rattle.raster.specs.Biased.{bias, biased}
-use Rattle.raster.specs.Rects.{insideB, inRect, paneRect, windowRect, overlapOf, rectBy, rectOf, Room}
+use Rattle.raster.specs.Rects.{insideB, inRect, paneRect, windowRect, shiftedRect, clipBy, clipRect, overlapOf, rectBy, rectOf, Room}
 use Rattle.raster.proofs.Tests.{same, both, left, right, four, quad, and-true, and-swap}
 use Rattle.raster.proofs.Coordinates.{le-pos, pos-le}
+use Rattle.raster.proofs.Words.{word-coord, sum-coord, biased-sum}
+use Rattle.raster.proofs.Moved.{within-moved}
 
 -- ---- the points of both
 module _ (a b c d x : ℕ) where
@@ -50,7 +54,7 @@ module _ (f : Frame) (x y : ℕ) where
   pane = paneRect (f .bounds .pane)
 
   abbrev window : Rect
-  window = windowRect (f .window)
+  window = clipRect f
 
   by-mode : (m : Bool) → (insideB pane x y && (m || insideB window x y)) ≡ insideB (rectBy m f) x y
   by-mode true = and-true (insideB pane x y)
@@ -72,6 +76,55 @@ module _ (i j : ℕ) where
       window-is (record { x0 = pos (b .pane .left); y0 = pos (b .pane .top); x1 = pos (b .pane .right); y1 = pos (b .pane .bottom) })
       (record { small = omega (arith, h) }) (record { small = omega (arith, h) }) (record { small = omega (arith, h) }) (record { small = omega (arith, h) })
 
+-- the clip window where it lies
+module _ (i j : ℕ) (f : Frame) (h : Sane f) where
+  abbrev w : Window
+  w = f .window
+
+  abbrev o : Dot
+  o = f .origin
+
+  -- as it stands
+  stands : inWindow w (pos i) (pos j) ≡ inRect (windowRect w) i j
+  stands =
+      let v = h .window in
+      window-is i j w (word-coord (w .x0) (v .0)) (word-coord (w .y0) (v .1)) (word-coord (w .x1) (v .2)) (word-coord (w .y1) (v .3))
+
+  -- relative to the origin: each corner is moved
+  abbrev away : Window
+  away = record { x0 = w .x0 +ℤ o .x; y0 = w .y0 +ℤ o .y; x1 = w .x1 +ℤ o .x; y1 = w .y1 +ℤ o .y }
+
+  away-is : inWindow away (pos i) (pos j) ≡ inRect (windowRect away) i j
+  away-is =
+      let v = h .window in
+      let k = h .origin in
+      window-is i j away (sum-coord (w .x0) (o .x) (v .0) (k .0)) (sum-coord (w .y0) (o .y) (v .1) (k .1))
+      (sum-coord (w .x1) (o .x) (v .2) (k .0)) (sum-coord (w .y1) (o .y) (v .3) (k .1))
+
+  corners : windowRect away ≡ shiftedRect (windowRect w) o
+  corners =
+      let v = h .window in
+      let k = h .origin in
+      λ u. record {
+        l = biased-sum (w .x0) (o .x) (v .0) (k .0) u;
+        t = biased-sum (w .y0) (o .y) (v .1) (k .1) u;
+        r = biased-sum (w .x1) (o .x) (v .2) (k .0) u;
+        b = biased-sum (w .y1) (o .y) (v .3) (k .1) u;
+      }
+
+  relative : movedBy o (inWindow w) (pos i) (pos j) ≡ inRect (shiftedRect (windowRect w) o) i j
+  relative =
+      ap₂ (λ (t u : Bool). t && u) (within-moved (w .x0) (w .x1) (o .x) (pos i)) (within-moved (w .y0) (w .y1) (o .y) (pos j))
+      ∙ away-is
+      ∙ ap (λ (r : Rect). inRect r i j) corners
+
+  by-relative : (t : Bool) → cond t (movedBy o (inWindow w)) (inWindow w) (pos i) (pos j) ≡ inRect (clipBy t f) i j
+  by-relative true = relative
+  by-relative false = stands
+
+  clip-is : inClip f (pos i) (pos j) ≡ inRect (clipRect f) i j
+  clip-is = by-relative (eqb (f .mode) 1)
+
 -- ---- drawable
 on-screen : (b : Bounds) (i j : ℕ) → i < b .width → j < b .height → onScreen b (pos i) (pos j) ≡ true
 on-screen b i j h k =
@@ -81,9 +134,8 @@ on-screen b i j h k =
 pub drawable-is : (f : Frame) → Sane f → (i j : ℕ) → i < f .bounds .width → j < f .bounds .height → drawable f (pos i) (pos j) ≡ inRect (rectOf f) i j
 unfolding drawable
 drawable-is f h i j k l =
-    let v = h .window in
-    ap (λ (t : Bool). t && inPane (f .bounds) (pos i) (pos j) && (eqb (f .mode) 0 || inWindow (f .window) (pos i) (pos j))) (on-screen (f .bounds) i j k l)
-    ∙ ap₂ (λ (t u : Bool). t && (eqb (f .mode) 0 || u)) (pane-is i j (f .bounds) (h .bounds)) (window-is i j (f .window) (v .0) (v .1) (v .2) (v .3))
+    ap (λ (t : Bool). t && inPane (f .bounds) (pos i) (pos j) && (eqb (f .mode) 0 || inClip f (pos i) (pos j))) (on-screen (f .bounds) i j k l)
+    ∙ ap₂ (λ (t u : Bool). t && (eqb (f .mode) 0 || u)) (pane-is i j (f .bounds) (h .bounds)) (clip-is i j f h)
     ∙ rect-is f (i + bias) (j + bias)
 
 -- ---- room
@@ -113,7 +165,7 @@ room f s h = by (eqb (f .mode) 0)
           from-top = omega arith;
           to-right = omega (arith, v);
           to-bottom = omega (arith, v);
-          down = rows (min (f .bounds .pane .bottom + bias) (biased (f .window .y1)) + 1 - bias) (omega (arith, v));
+          down = rows (min (f .bounds .pane .bottom + bias) (clipRect f .b) + 1 - bias) (omega (arith, v));
         }
 
 pub same-room : (w : ℕ) (r : Rect) (s t : List ℕ) → length t ≡ length s → Room w r s → Room w r t

@@ -5,7 +5,7 @@ use lib.IntN.{ℤ, pos, negsuc, subℕ}
 use lib.Dec.{eqb}
 use Rattle.raster.specs.declared.dots.Dot.{Dot}
 use Rattle.raster.specs.declared.biased.Spot.{Spot}
-use Rattle.raster.specs.Frame.{Coord}
+use Rattle.raster.specs.Frame.{Word, Coord}
 
 -- what is added to a coordinate
 abbrev pub bias : ℕ
@@ -22,9 +22,17 @@ spotOf d = record { x = biased (d .x); y = biased (d .y) }
 abbrev pub dotOf : Spot → Dot
 dotOf p = record { x = subℕ (p .x) bias; y = subℕ (p .y) bias }
 
+-- both are signed words
+abbrev pub WordB : Spot → Type 0
+WordB p = Word (dotOf p .x) × Word (dotOf p .y)
+
 -- both are coordinates
 abbrev pub NearB : Spot → Type 0
 NearB p = Coord (dotOf p .x) × Coord (dotOf p .y)
+
+-- the dot p moved by o
+abbrev pub shiftedB : Spot → Dot → Spot
+shiftedB p o = record { x = p .x + biased (o .x) - bias; y = p .y + biased (o .y) - bias }
 
 -- the pixel in column i of row j is the dot p
 abbrev pub dotB : Spot → ℕ → ℕ → Bool

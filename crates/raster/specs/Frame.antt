@@ -1,5 +1,5 @@
--- Drawable points (document 01, 'Which dots are painted'), and the frames that the drawing functions take.
-use mathlib.Core.Bool.{Bool, _&&_, _||_}
+-- Drawable points (document 01, 'Which dots are painted', with request T-06's sentence on clip modes), and the frames that the drawing functions take.
+use mathlib.Core.Bool.{Bool, cond, _&&_, _||_}
 use mathlib.Core.Path.{_≡_}
 use mathlib.Core.List.{List}
 use Prim.Native.Nat.{ℕ, _*_, _≤_, _<_}
@@ -10,6 +10,7 @@ use lib.ListN.{length}
 use Rattle.raster.specs.declared.frame.Bounds.{Bounds}
 use Rattle.raster.specs.declared.frame.Window.{Window}
 use Rattle.raster.specs.declared.frame.Frame.{Frame}
+use Rattle.raster.specs.Shapes.{Shape, movedBy}
 
 -- z lies between a and b, both ends inside
 abbrev pub within : ℤ → ℤ → ℤ → Bool
@@ -25,9 +26,17 @@ inPane b x y = within (pos (b .pane .left)) (pos (b .pane .right)) x && within (
 abbrev pub inWindow : Window → ℤ → ℤ → Bool
 inWindow w x y = within (w .x0) (w .x1) x && within (w .y0) (w .y1) y
 
+-- the clip window where it lies: in mode 1 relative to the origin, in mode 2 absolute
+abbrev pub inClip : Frame → Shape
+inClip f = cond (eqb (f .mode) 1) (movedBy (f .origin) (inWindow (f .window))) (inWindow (f .window))
+
 -- inside the screen, inside the pane and, in modes 1 and 2, inside the clip window
 unfoldable pub drawable : Frame → ℤ → ℤ → Bool
-drawable f x y = onScreen (f .bounds) x y && inPane (f .bounds) x y && (eqb (f .mode) 0 || inWindow (f .window) x y)
+drawable f x y = onScreen (f .bounds) x y && inPane (f .bounds) x y && (eqb (f .mode) 0 || inClip f x y)
+
+-- z is a signed word
+pub record Word (z : ℤ) : Type 0 where
+  pub small : mag z < 32768
 
 -- z is a coordinate: a signed word, or one moved by another
 pub record Coord (z : ℤ) : Type 0 where
@@ -44,10 +53,11 @@ pub record Sound (b : Bounds) : Type 0 where
   pub top-bottom : b .pane .top ≤ b .pane .bottom
   pub bottom-inside : b .pane .bottom < b .height
 
--- such bounds, and a window whose corners are coordinates
+-- such bounds, and an origin and a window of signed words
 pub record Sane (f : Frame) : Type 0 where
   pub bounds : Sound (f .bounds)
-  pub window : Coord (f .window .x0) × Coord (f .window .y0) × Coord (f .window .x1) × Coord (f .window .y1)
+  pub origin : Word (f .origin .x) × Word (f .origin .y)
+  pub window : Word (f .window .x0) × Word (f .window .y0) × Word (f .window .x1) × Word (f .window .y1)
 
 -- s is a screen of the frame's size
 pub record Fitting (f : Frame) (s : List ℕ) : Type 0 where

@@ -7,10 +7,11 @@ use lib.ListN.{length}
 use Rattle.raster.specs.declared.frame.Pane.{Pane}
 use Rattle.raster.specs.declared.frame.Window.{Window}
 use Rattle.raster.specs.declared.frame.Frame.{Frame}
+use Rattle.raster.specs.declared.dots.Dot.{Dot}
 use Rattle.raster.specs.declared.biased.Spot.{Spot}
 use Rattle.raster.specs.declared.rect.Rect.{Rect}
 use Rattle.raster.specs.Paint.{recolour}
-use Rattle.raster.specs.Biased.{bias, biased}
+use Rattle.raster.specs.Biased.{bias, biased, shiftedB}
 
 -- the pixels of S, by column and row, get the colour c on a screen w wide
 abbrev pub pixels : ℕ → (ℕ → ℕ → Bool) → ℕ → List ℕ → List ℕ
@@ -33,12 +34,28 @@ paneRect p = record { l = p .left + bias; t = p .top + bias; r = p .right + bias
 abbrev pub windowRect : Window → Rect
 windowRect w = record { l = biased (w .x0); t = biased (w .y0); r = biased (w .x1); b = biased (w .y1) }
 
+-- from one corner to the other
+abbrev pub rectFrom : Spot → Spot → Rect
+rectFrom p q = record { l = p .x; t = p .y; r = q .x; b = q .y }
+
+-- moved by o
+abbrev pub shiftedRect : Rect → Dot → Rect
+shiftedRect r o = rectFrom (shiftedB (record { x = r .l; y = r .t }) o) (shiftedB (record { x = r .r; y = r .b }) o)
+
+-- the clip window as it stands, or relative to the origin
+abbrev pub clipBy : Bool → Frame → Rect
+clipBy relative f = cond relative (shiftedRect (windowRect (f .window)) (f .origin)) (windowRect (f .window))
+
+-- where it lies: in mode 1 relative to the origin
+abbrev pub clipRect : Frame → Rect
+clipRect f = clipBy (eqb (f .mode) 1) f
+
 abbrev pub overlapOf : Rect → Rect → Rect
 overlapOf p q = record { l = max (p .l) (q .l); t = max (p .t) (q .t); r = min (p .r) (q .r); b = min (p .b) (q .b) }
 
 -- the pane alone, or the pane and the window
 abbrev pub rectBy : Bool → Frame → Rect
-rectBy alone f = cond alone (paneRect (f .bounds .pane)) (overlapOf (paneRect (f .bounds .pane)) (windowRect (f .window)))
+rectBy alone f = cond alone (paneRect (f .bounds .pane)) (overlapOf (paneRect (f .bounds .pane)) (clipRect f))
 
 -- the drawable points: the pane's and, in modes 1 and 2, only the window's of them
 abbrev pub rectOf : Frame → Rect

@@ -1,13 +1,16 @@
 -- Shapes: a shape says of each point whether it is one of its dots.
 use mathlib.Core.Bool.{Bool, true, false, _&&_, _||_}
 use Prim.Native.Nat.{ℕ, zero, suc}
-use lib.IntN.{ℤ, pos, negsuc, natAbs, _-ℤ_}
+use lib.IntN.{ℤ, pos, negsuc, natAbs, _+ℤ_, _-ℤ_}
 use lib.Dec.{eqb}
 use Rattle.raster.specs.declared.dots.Dot.{Dot}
 
 -- column x, row y; (0, 0) is the top left
 abbrev pub Shape : Type 0
 Shape = ℤ → ℤ → Bool
+
+abbrev pub topLeft : Dot
+topLeft = record { x = pos 0; y = pos 0 }
 
 -- two whole numbers are the same
 abbrev pub eqZ : ℤ → ℤ → Bool
@@ -23,6 +26,14 @@ gap a b = natAbs (b -ℤ a)
 -- the one dot d
 abbrev pub dot : Dot → Shape
 dot d = λ x y. eqZ (d .x) x && eqZ (d .y) y
+
+-- the dot p moved by o
+abbrev pub shifted : Dot → Dot → Dot
+shifted p o = record { x = p .x +ℤ o .x; y = p .y +ℤ o .y }
+
+-- the shape S moved by o: what it had at (0, 0) is at o
+abbrev pub movedBy : Dot → Shape → Shape
+movedBy o S = λ x y. S (x -ℤ o .x) (y -ℤ o .y)
 
 -- every point
 abbrev pub all : Shape

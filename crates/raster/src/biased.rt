@@ -4,8 +4,8 @@ use crate::dots::Dot;
 ghost use mathlib.Core.Path.{_≡_};
 ghost use mathlib.Core.Bool.{false};
 ghost use Prim.Native.Nat.{_-_, _*_, _<_, _≤_, min, max};
-ghost use Rattle.raster.specs.Frame.{Coord};
-ghost use Rattle.raster.specs.Biased.{biased, spotOf, gapB, aside};
+ghost use Rattle.raster.specs.Frame.{Word, Coord};
+ghost use Rattle.raster.specs.Biased.{biased, spotOf, shiftedB, WordB, gapB, aside};
 
 // What is added to a coordinate.
 pub const BIAS: u32 = 65536;
@@ -29,6 +29,17 @@ pub fn spot_of(d: Dot) -> Spot
 {
     let x = biased(d.x);
     let y = biased(d.y);
+    Spot { x, y }
+}
+
+// A dot moved by o.
+pub fn shift(p: Spot, o: Dot) -> Spot
+    requires { ⌜ WordB p × Word (o .x) × Word (o .y) ⌝ }
+    ensures { λ r. ⌜ r ≡ shiftedB p o ⌝ }
+{
+    let by = spot_of(o);
+    let x = p.x + by.x - BIAS;
+    let y = p.y + by.y - BIAS;
     Spot { x, y }
 }
 

@@ -1,4 +1,5 @@
-// The frame: what may be drawn on.
+// The frame: what may be drawn on, and from where.
+use crate::dots::Dot;
 
 // Columns left to right and rows top to bottom of the screen, both ends inside.
 #[repr(C)]
@@ -26,9 +27,11 @@ pub struct Window {
     pub y1: i32,
 }
 
+// Coordinates are relative to the origin. In clip mode 1 the window is too, in mode 2 it is absolute.
 #[repr(C)]
 pub struct Frame {
     pub bounds: Bounds,
+    pub origin: Dot,
     pub mode: u32,
     pub window: Window,
 }

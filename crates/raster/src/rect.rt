@@ -3,6 +3,7 @@ use crate::biased::BIAS;
 use crate::biased::Spot;
 use crate::biased::biased;
 use crate::biased::larger;
+use crate::biased::shift;
 use crate::biased::smaller;
 use crate::frame::Frame;
 use crate::frame::Pane;
@@ -13,7 +14,7 @@ ghost use Prim.Native.Nat.{_<_, _≤_};
 ghost use lib.Dec.{leb};
 ghost use lib.ListN.{set};
 ghost use Rattle.raster.specs.Frame.{Coord, Sane};
-ghost use Rattle.raster.specs.Rects.{byteB, insideB, paneRect, windowRect, overlapOf, rectOf, Placed, Seen};
+ghost use Rattle.raster.specs.Rects.{byteB, insideB, paneRect, windowRect, clipRect, overlapOf, rectOf, Placed, Seen};
 
 // Columns l to r of rows t to b, both ends inside: none where l is above r, or t above b.
 pub struct Rect {
@@ -47,6 +48,25 @@ fn window_rect(w: Window) -> Rect
     }
 }
 
+// The clip window where it lies: in mode 1 relative to the origin.
+fn clip_rect(f: Frame) -> Rect
+    requires { ⌜ Sane f ⌝ }
+    ensures { λ r. ⌜ r ≡ clipRect f ⌝ }
+{
+    let w = window_rect(f.window);
+    if f.mode != 1 {
+        return w;
+    }
+    let p = shift(Spot { x: w.l, y: w.t }, f.origin);
+    let q = shift(Spot { x: w.r, y: w.b }, f.origin);
+    Rect {
+        l: p.x,
+        t: p.y,
+        r: q.x,
+        b: q.y,
+    }
+}
+
 // The points of both.
 fn overlap(a: Rect, b: Rect) -> Rect
     ensures { λ r. ⌜ r ≡ overlapOf a b ⌝ }
@@ -65,11 +85,10 @@ pub fn rect_of(f: Frame) -> Rect
     ensures { λ r. ⌜ r ≡ rectOf f ⌝ }
 {
     let p = pane_rect(f.bounds.pane);
-    let w = window_rect(f.window);
     if f.mode == 0 {
         return p;
     }
-    overlap(p, w)
+    overlap(p, clip_rect(f))
 }
 
 fn inside(r: Rect, p: Spot) -> bool
@@ -110,7 +129,7 @@ pub fn visible(f: Frame, p: Spot) -> bool
     if f.mode == 0 {
         return true;
     }
-    inside(window_rect(f.window), p)
+    inside(clip_rect(f), p)
 }
 
 // The dot's byte on a screen of w columns.

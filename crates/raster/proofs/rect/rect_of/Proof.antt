@@ -11,28 +11,28 @@ use Rattle.raster.proofs.rect.rect_of.Tie as tie
 pane-rect-requires : tie.Need-pane-rect-requires
 pane-rect-requires c κs = search needs
 
-window-rect-requires : tie.Need-window-rect-requires
-window-rect-requires c κs = search needs
-
 returns : tie.Need-returns
 returns c =
-    let p = c .before .before .before in
+    let p = c .before .before in
     let f = p .before .args .f in
     p .pane-rect .ensures ∙ sym (ap (λ (t : Bool). rectBy t f) (eq-eqb (f .mode) 0 (c .if1 .taken)))
+
+clip-rect-requires : tie.Need-clip-rect-requires
+clip-rect-requires c κs = search needs
 
 overlap-requires : tie.Need-overlap-requires
 overlap-requires c κs = search needs
 
 returns-2 : tie.Need-returns-2
 returns-2 c =
-    let e = c .before in
-    let w = e .before .before in
-    let p = w .before in
+    let w = c .before in
+    let e = w .before in
+    let p = e .before .before in
     let f = p .before .args .f in
     c .overlap .ensures
-    ∙ ap₂ (λ (q r : Rect). overlapOf q r) (p .pane-rect .ensures) (w .window-rect .ensures)
+    ∙ ap₂ (λ (q r : Rect). overlapOf q r) (p .pane-rect .ensures) (w .clip-rect .ensures)
     ∙ sym (ap (λ (t : Bool). rectBy t f) (ne-eqb (f .mode) 0 (e .if1 .left)))
 
 pub rect-of-spec : {M : Type 1} → statement M
 rect-of-spec =
-    tie.close (tie.spec pane-rect-requires window-rect-requires returns overlap-requires returns-2)
+    tie.close (tie.spec pane-rect-requires returns clip-rect-requires overlap-requires returns-2)

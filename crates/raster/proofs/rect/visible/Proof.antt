@@ -8,12 +8,12 @@ use borrow.Author.Tests.{not-true, not-false, eq-eqb, ne-eqb}
 use lib.Dec.{leb, eqb}
 use Rattle.raster.specs.declared.frame.Frame.{Frame}
 use Rattle.raster.specs.declared.rect.Rect.{Rect}
-use Rattle.raster.specs.Rects.{insideB, paneRect, windowRect, rectOf}
+use Rattle.raster.specs.Rects.{insideB, paneRect, clipRect, rectOf}
 use Rattle.raster.proofs.Rectangles.{rect-is}
 use Rattle.raster.proofs.rect.visible.Statement.{statement}
 use Rattle.raster.proofs.rect.visible.Tie as tie
 
-decided : (f : Frame) (x y : ℕ) (p m w : Bool) → insideB (paneRect (f .bounds .pane)) x y ≡ p → eqb (f .mode) 0 ≡ m → insideB (windowRect (f .window)) x y ≡ w
+decided : (f : Frame) (x y : ℕ) (p m w : Bool) → insideB (paneRect (f .bounds .pane)) x y ≡ p → eqb (f .mode) 0 ≡ m → insideB (clipRect f) x y ≡ w
     → (p && (m || w)) ≡ insideB (rectOf f) x y
 decided f x y p m w a b c = sym (λ i. a i && (b i || c i)) ∙ rect-is f x y
 
@@ -69,8 +69,8 @@ returns-3 c =
     let g = e .before .before .before .before .before .args in
     decided (g .f) (g .p .x) (g .p .y) true true _ (in-pane e) (eq-eqb (g .f .mode) 0 (c .if3 .taken)) refl
 
-window-rect-requires : tie.Need-window-rect-requires
-window-rect-requires c κs = search needs
+clip-rect-requires : tie.Need-clip-rect-requires
+clip-rect-requires c κs = search needs
 
 inside-requires : tie.Need-inside-requires
 inside-requires c κs = search needs
@@ -82,9 +82,9 @@ returns-4 c =
     let e = m .before .before in
     let g = e .before .before .before .before .before .args in
     decided (g .f) (g .p .x) (g .p .y) true false (c .inside .result) (in-pane e) (ne-eqb (g .f .mode) 0 (m .if3 .left))
-    (sym (c .inside .ensures ∙ ap (λ (r : Rect). insideB r (g .p .x) (g .p .y)) (w .window-rect .ensures)))
+    (sym (c .inside .ensures ∙ ap (λ (r : Rect). insideB r (g .p .x) (g .p .y)) (w .clip-rect .ensures)))
 
 pub visible-spec : {M : Type 1} → statement M
 visible-spec =
     tie.close
-    (tie.spec pane-rect-requires among-requires returns among-requires-2 returns-2 returns-3 window-rect-requires inside-requires returns-4)
+    (tie.spec pane-rect-requires among-requires returns among-requires-2 returns-2 returns-3 clip-rect-requires inside-requires returns-4)
