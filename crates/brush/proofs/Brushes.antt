@@ -14,8 +14,8 @@ use mir.Facts.{toZ-ofZ}
 use Rattle.raster.specs.declared.dots.Dot.{Dot}
 use Rattle.raster.specs.declared.biased.Spot.{Spot}
 use Rattle.raster.specs.Shapes.{dot, all}
-use Rattle.raster.specs.Frame.{Coord}
-use Rattle.raster.specs.Biased.{spotOf, dotOf, NearB}
+use Rattle.raster.specs.Frame.{Word}
+use Rattle.raster.specs.Biased.{spotOf, dotOf, WordB}
 use Rattle.lines.specs.declared.line.Line.{Line}
 use Rattle.lines.specs.Line.{line}
 use Rattle.lines.specs.Dashes.{dashed}
@@ -24,14 +24,18 @@ use Rattle.circles.specs.declared.circle.Circle.{Circle}
 use Rattle.circles.specs.Circle.{disc, outline, circle}
 use Rattle.circles.specs.Reaches.{circleOf}
 use Rattle.brush.specs.Brush.{kind, one, other, pattern, radius, between, shapeOf, Full, Radius, Near, Holds}
+use Rattle.raster.proofs.Words.{word-coord}
 use Rattle.raster.proofs.Coordinates.{dot-back}
 use Rattle.brush.proofs.Spelt.{spelt, one-by-one}
 
 pub byte : (c : ℕ) → c < 256 → c % 256 ≡ c
 byte c h = omega (arith, h)
 
-near-back : (d : Dot) → Coord (d .x) × Coord (d .y) → NearB (spotOf d)
-near-back d h = subst⁻¹ (λ (e : Dot). Coord (e .x) × Coord (e .y)) (dot-back d h) h
+word-back : (d : Dot) → Word (d .x) × Word (d .y) → dotOf (spotOf d) ≡ d
+word-back d h = dot-back d (word-coord (d .x) (h .0), word-coord (d .y) (h .1))
+
+near-back : (d : Dot) → Word (d .x) × Word (d .y) → WordB (spotOf d)
+near-back d h = subst⁻¹ (λ (e : Dot). Word (e .x) × Word (e .y)) (word-back d h) h
 
 -- a radius is a natural number, and comes back whole from a call
 pub radius-small : (z : ℤ) → Radius z → natAbs z < 32768
@@ -47,29 +51,29 @@ radius-back z h = rw (sym (radius-natural z h)) (toZ-ofZ {w = w32} (record { sfi
 
 -- a kind of which nothing is asked
 abbrev asks : ℕ → Bool
-asks k = eqb k 2 || eqb k 4 || eqb k 5 || eqb k 6
+asks k = eqb k 1 || eqb k 2 || eqb k 4 || eqb k 5 || eqb k 6
 
 pub unasked : {p : List ℕ} (k : ℕ) → kind p ≡ k → asks k ≡ false → Near p
-unasked {p} k e h = record { line = λ z. no z refl; disc = λ z. no z refl; outline = λ z. no z refl; dashed = λ z. no z refl }
+unasked {p} k e h = record { dot = λ z. no z refl; line = λ z. no z refl; disc = λ z. no z refl; outline = λ z. no z refl; dashed = λ z. no z refl }
   where
     no : {j : ℕ} {X : Type 0} → kind p ≡ j → asks j ≡ true → X
     no z t = absurd (true≢false (sym t ∙ ap asks (sym z ∙ e) ∙ h))
 
 -- ---- what is stored, p and q biased, is what was given
 module _ (b : List ℕ) (l : Full b) (c : ℕ) (k : c < 256) where
-  pub dot-held : (d : Dot) → Coord (d .x) × Coord (d .y) → (p : Spot) → p ≡ spotOf d → Holds (dot d) c (set (set (set (set b 0 1) 1 c) 2 (p .x)) 3 (p .y))
+  pub dot-held : (d : Dot) → Word (d .x) × Word (d .y) → (p : Spot) → p ≡ spotOf d → Holds (dot d) c (set (set (set (set b 0 1) 1 c) 2 (p .x)) 3 (p .y))
   unfolding shapeOf
   dot-held d h p e =
       rw e
       (one-by-one 0 (λ b. Holds (dot d) c (set (set (set (set b 0 1) 1 c) 2 (spotOf d .x)) 3 (spotOf d .y))) b l
-      (record { full = refl; near = unasked 1 refl refl; shape = ap dot (dot-back d h); colour = byte c k }))
+      (record { full = refl; near = record { dot = λ z. near-back d h; line = λ z. absurd (omega (arith, z)); disc = λ z. absurd (omega (arith, z)); outline = λ z. absurd (omega (arith, z)); dashed = λ z. absurd (omega (arith, z)) }; shape = ap dot (word-back d h); colour = byte c k }))
 
   -- a line's ends
-  module _ (m : Line) (h : Coord (m .from .x) × Coord (m .from .y) × Coord (m .to .x) × Coord (m .to .y)) where
+  module _ (m : Line) (h : Word (m .from .x) × Word (m .from .y) × Word (m .to .x) × Word (m .to .y)) where
     same-line : lineOf (spotOf (m .from)) (spotOf (m .to)) ≡ m
-    same-line = λ i. record { from = dot-back (m .from) (h .0, h .1) i; to = dot-back (m .to) (h .2, h .3) i }
+    same-line = λ i. record { from = word-back (m .from) (h .0, h .1) i; to = word-back (m .to) (h .2, h .3) i }
 
-    ends : NearB (spotOf (m .from)) × NearB (spotOf (m .to))
+    ends : WordB (spotOf (m .from)) × WordB (spotOf (m .to))
     ends = (near-back (m .from) (h .0, h .1), near-back (m .to) (h .2, h .3))
 
     pub line-held : Holds (line m) c (between 2 c (spotOf (m .from)) (spotOf (m .to)) b)
@@ -78,7 +82,7 @@ module _ (b : List ℕ) (l : Full b) (c : ℕ) (k : c < 256) where
         one-by-one 0 (λ b. Holds (line m) c (between 2 c (spotOf (m .from)) (spotOf (m .to)) b)) b l
         (record {
           full = refl;
-          near = record { line = λ z. ends; disc = λ z. absurd (omega (arith, z)); outline = λ z. absurd (omega (arith, z)); dashed = λ z. absurd (omega (arith, z)) };
+          near = record { dot = λ z. absurd (omega (arith, z)); line = λ z. ends; disc = λ z. absurd (omega (arith, z)); outline = λ z. absurd (omega (arith, z)); dashed = λ z. absurd (omega (arith, z)) };
           shape = ap line same-line;
           colour = byte c k;
         })
@@ -89,7 +93,7 @@ module _ (b : List ℕ) (l : Full b) (c : ℕ) (k : c < 256) where
         one-by-one 0 (λ b. Holds (dashed o m) c (set (between 6 c (spotOf (m .from)) (spotOf (m .to)) b) 6 o)) b l
         (record {
           full = refl;
-          near = record { line = λ z. absurd (omega (arith, z)); disc = λ z. absurd (omega (arith, z)); outline = λ z. absurd (omega (arith, z)); dashed = λ z. ends };
+          near = record { dot = λ z. absurd (omega (arith, z)); line = λ z. absurd (omega (arith, z)); disc = λ z. absurd (omega (arith, z)); outline = λ z. absurd (omega (arith, z)); dashed = λ z. ends };
           shape = ap (dashed o) same-line;
           colour = byte c k;
         })
@@ -97,23 +101,23 @@ module _ (b : List ℕ) (l : Full b) (c : ℕ) (k : c < 256) where
   abbrev roundly : Bool → Spot → ℕ → List ℕ → List ℕ
   roundly filled p q b = set (set (set (set (set b 0 (cond filled 4 5)) 1 c) 2 (p .x)) 3 (p .y)) 4 q
 
-  pub circle-held : (m : Circle) → (Coord (m .centre .x) × Coord (m .centre .y) × Radius (m .radius)) → (filled : Bool) (p : Spot) → p ≡ spotOf (m .centre)
+  pub circle-held : (m : Circle) → (Word (m .centre .x) × Word (m .centre .y) × Radius (m .radius)) → (filled : Bool) (p : Spot) → p ≡ spotOf (m .centre)
       → Holds (circle filled m) c (roundly filled p (natAbs (m .radius)) b)
   unfolding shapeOf
   circle-held m h filled p e =
       rw e (one-by-one 0 (λ b. Holds (circle filled m) c (roundly filled (spotOf (m .centre)) (natAbs (m .radius)) b)) b l (by filled))
     where
       same : circleOf (spotOf (m .centre)) (natAbs (m .radius)) ≡ m
-      same = λ i. record { centre = dot-back (m .centre) (h .0, h .1) i; radius = radius-natural (m .radius) (h .2) i }
+      same = λ i. record { centre = word-back (m .centre) (h .0, h .1) i; radius = radius-natural (m .radius) (h .2) i }
 
-      asked : NearB (spotOf (m .centre)) × (natAbs (m .radius) < 32768)
+      asked : WordB (spotOf (m .centre)) × (natAbs (m .radius) < 32768)
       asked = (near-back (m .centre) (h .0, h .1), radius-small (m .radius) (h .2))
 
       by : (t : Bool) → Holds (circle t m) c (roundly t (spotOf (m .centre)) (natAbs (m .radius)) (spelt 0 7 b))
       by true =
-          record { full = refl; near = record { line = λ z. absurd (omega (arith, z)); disc = λ z. asked; outline = λ z. asked; dashed = λ z. absurd (omega (arith, z)) }; shape = ap disc same; colour = byte c k }
+          record { full = refl; near = record { dot = λ z. absurd (omega (arith, z)); line = λ z. absurd (omega (arith, z)); disc = λ z. asked; outline = λ z. asked; dashed = λ z. absurd (omega (arith, z)) }; shape = ap disc same; colour = byte c k }
       by false =
-          record { full = refl; near = record { line = λ z. absurd (omega (arith, z)); disc = λ z. asked; outline = λ z. asked; dashed = λ z. absurd (omega (arith, z)) }; shape = ap outline same; colour = byte c k }
+          record { full = refl; near = record { dot = λ z. absurd (omega (arith, z)); line = λ z. absurd (omega (arith, z)); disc = λ z. asked; outline = λ z. asked; dashed = λ z. absurd (omega (arith, z)) }; shape = ap outline same; colour = byte c k }
 
   pub all-held : Holds all c (set (set b 0 3) 1 c)
   unfolding shapeOf

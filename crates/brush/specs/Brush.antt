@@ -1,4 +1,4 @@
--- A brush: seven numbers that say what is to be painted. 0 the kind of shape, 1 the colour, 2 and 3 a point, biased, 4 and 5 another, or 4 a radius, 6 a pattern.
+-- A brush: seven numbers that say what is to be painted, relative to an origin. 0 the kind of shape, 1 the colour, 2 and 3 a point, biased, 4 and 5 another, or 4 a radius, 6 a pattern.
 use mathlib.Core.Bool.{true, false, cond}
 use mathlib.Core.Path.{_≡_}
 use mathlib.Core.List.{List}
@@ -9,7 +9,7 @@ use lib.Dec.{eqb}
 use lib.ListN.{length, getD, set}
 use Rattle.raster.specs.declared.biased.Spot.{Spot}
 use Rattle.raster.specs.Shapes.{Shape, dot, all}
-use Rattle.raster.specs.Biased.{dotOf, NearB}
+use Rattle.raster.specs.Biased.{dotOf, WordB}
 use Rattle.lines.specs.Line.{line}
 use Rattle.lines.specs.Dashes.{dashed}
 use Rattle.lines.specs.Courses.{lineOf}
@@ -60,12 +60,13 @@ pub record Radius (z : ℤ) : Type 0 where
   pub low : leZ (pos 0) z ≡ true
   pub high : leZ z (pos 32767) ≡ true
 
--- a line's ends are coordinates, dashed or not; a circle's centre is one, and its radius below 32,768
+-- a dot is of signed words, and so are a line's ends, dashed or not, and a circle's centre; its radius is below 32,768
 pub record Near (p : List ℕ) : Type 0 where
-  pub line : kind p ≡ 2 → NearB (one p) × NearB (other p)
-  pub disc : kind p ≡ 4 → NearB (one p) × (radius p < 32768)
-  pub outline : kind p ≡ 5 → NearB (one p) × (radius p < 32768)
-  pub dashed : kind p ≡ 6 → NearB (one p) × NearB (other p)
+  pub dot : kind p ≡ 1 → WordB (one p)
+  pub line : kind p ≡ 2 → WordB (one p) × WordB (other p)
+  pub disc : kind p ≡ 4 → WordB (one p) × (radius p < 32768)
+  pub outline : kind p ≡ 5 → WordB (one p) × (radius p < 32768)
+  pub dashed : kind p ≡ 6 → WordB (one p) × WordB (other p)
 
 -- the brush p with a line of the kind k between two points, in the colour c
 abbrev pub between : ℕ → ℕ → Spot → Spot → List ℕ → List ℕ

@@ -8,6 +8,7 @@ use native.Mathlib.Numerals.{add-one}
 use lib.ListN.{length}
 use Rattle.raster.specs.declared.frame.Bounds.{Bounds}
 use Rattle.raster.specs.declared.frame.Frame.{Frame}
+use Rattle.raster.specs.Shapes.{movedBy}
 use Rattle.raster.specs.Paint.{paint}
 use Rattle.brush.specs.Brush.{shapeOf, colourOf}
 use Rattle.raster.proofs.Recolour.{none, length-recolour}
@@ -50,11 +51,11 @@ module _ {E : Type 0} (P : Player E) where
     pub painting : u ≡ Brushed → went e₁ (marks (brushed (frame e₁) p)) ≡ shown (P .stop) (P .step e) e
     painting is = rw is at as-shown
 
-    pub turned-painting : u ≡ Brushed → {s₁ : List ℕ} {f : Frame} → f ≡ frame e₁ → s₁ ≡ paint f (shapeOf p) (colourOf p) s → Turned e s e₁ s₁
+    pub turned-painting : u ≡ Brushed → {s₁ : List ℕ} {f : Frame} → f ≡ frame e₁ → s₁ ≡ paint f (movedBy (f .origin) (shapeOf p)) (colourOf p) s → Turned e s e₁ s₁
     turned-painting is same x =
         record {
           dots = marks (brushed (frame e₁) p);
-          screen = x ∙ (ap (λ (g : Frame). paint g (shapeOf p) (colourOf p) s) same ∙ sym (marked-is (brushed (frame e₁) p) s));
+          screen = x ∙ (ap (λ (g : Frame). paint g (movedBy (g .origin) (shapeOf p)) (colourOf p) s) same ∙ sym (marked-is (brushed (frame e₁) p) s));
           shows = painting is;
         }
 

@@ -3,7 +3,7 @@ use Prim.Native.Nat.{ℕ}
 use mathlib.Core.Bool.{false}
 use mathlib.Core.List.{List, [], _∷_}
 use Rattle.raster.specs.declared.frame.Frame.{Frame}
-use Rattle.raster.specs.Shapes.{Shape}
+use Rattle.raster.specs.Shapes.{Shape, movedBy}
 use Rattle.raster.specs.Paint.{paint}
 
 -- the drawable dots of a shape, in one colour
@@ -11,6 +11,10 @@ pub record Painting : Type 0 where
   pub frame : Frame
   pub shape : Shape
   pub colour : ℕ
+
+-- a shape whose coordinates are relative to the frame's origin: it is moved there
+abbrev pub placed : Frame → Shape → ℕ → Painting
+placed f S c = record { frame = f; shape = movedBy (f .origin) S; colour = c }
 
 -- the empty shape
 abbrev pub nothing : Frame → Painting

@@ -13,7 +13,7 @@ use Rattle.player.specs.declared.Upshot.{Upshot}
 use Rattle.player.specs.declared.Upshot.the-variants.{Quiet, Brushed, Refused}
 use Rattle.player.specs.declared.State.{State}
 use Rattle.player.specs.declared.State.the-variants.{Running, Ended, Stopped}
-use Rattle.player.specs.Painting.{Painting}
+use Rattle.player.specs.Painting.{Painting, placed}
 use Rattle.player.specs.Player.{verdict, Outcome, done, refused}
 
 -- ---- the dots that are painted: all of them drawable, on a screen of this size, in this colour
@@ -45,7 +45,7 @@ shown stop (refused v) e = halted (stop v e)
 
 -- what a brush paints within a frame
 abbrev pub brushed : Frame → List ℕ → Painting
-brushed f p = record { frame = f; shape = shapeOf p; colour = colourOf p }
+brushed f p = placed f (shapeOf p) (colourOf p)
 
 -- what a program hands back, with the environment and the brush that it leaves: nothing is painted, or what the brush holds, or it was refused
 abbrev pub seen : {E : Type 0} → (E → Frame) → Upshot → E → List ℕ → Shown E

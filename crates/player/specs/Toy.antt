@@ -6,7 +6,7 @@ use lib.IntN.{pos}
 use lib.Dec.{eqb, leb, ltb}
 use lib.ListN.{length, getD}
 use Rattle.raster.specs.declared.frame.Frame.{Frame}
-use Rattle.raster.specs.Shapes.{dot, all}
+use Rattle.raster.specs.Shapes.{topLeft, dot, all}
 use Rattle.player.specs.declared.State.{State}
 use Rattle.player.specs.declared.State.the-variants.{Running, Ended, Stopped}
 use Rattle.player.specs.Painting.{Painting, nothing}
@@ -25,6 +25,7 @@ fresh w h l r =
     record {
       frame = record {
         bounds = record { width = w; height = h; pane = record { left = l; top = 0; right = r; bottom = h - 1 } };
+        origin = topLeft;
         mode = 0;
         window = record { x0 = pos 0; y0 = pos 0; x1 = pos (w - 1); y1 = pos (h - 1) };
       };
@@ -49,7 +50,7 @@ fill f c = record { frame = f; shape = all; colour = c }
 -- 0 ends, 1 sets the clip mode, any other word fills the pane with that colour
 abbrev pub brush : ℕ → Env → Outcome Env
 brush zero e = done (past (e .frame) Ended e) (nothing (e .frame))
-brush (suc zero) e = done (past (record { bounds = e .frame .bounds; mode = 1; window = e .frame .window }) Running e) (nothing (e .frame))
+brush (suc zero) e = done (past (record { bounds = e .frame .bounds; origin = e .frame .origin; mode = 1; window = e .frame .window }) Running e) (nothing (e .frame))
 brush (suc (suc n)) e = done (past (e .frame) Running e) (fill (e .frame) (suc (suc n)))
 
 -- the word x sets the dot (x, x) in colour 9
