@@ -57,6 +57,8 @@ pub fn form_of(word: u16) -> Form
         0x009E => Form::Paint(PaintForm::Pixel),
         0x009F => Form::Paint(PaintForm::Pixelv),
         0x00B9 => Form::Flow(FlowForm::Rtrn),
+        0x0100 => Form::Pen(PenForm::Xyorg),
+        0x0101 => Form::Pen(PenForm::Xyorgv),
         0x010A => Form::Flow(FlowForm::Jumpa),
         0x010C => Form::Flow(FlowForm::Jumpr),
         0x010E => Form::Flow(FlowForm::Calr),

@@ -57,6 +57,8 @@ penName Pens.Moveto = "MOVETO"
 penName Pens.Movetov = "MOVETOV"
 penName Pens.Movetor = "MOVETOR"
 penName Pens.Movetorv = "MOVETORV"
+penName Pens.Xyorg = "XYORG"
+penName Pens.Xyorgv = "XYORGV"
 
 abbrev pub paintName : PaintForm → String
 paintName Paints.Cir = "CIR"

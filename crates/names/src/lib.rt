@@ -80,6 +80,8 @@ fn pen_name(form: PenForm) -> Words
         PenForm::Movetov => padded(b"MOVETOV"),
         PenForm::Movetor => padded(b"MOVETOR"),
         PenForm::Movetorv => padded(b"MOVETORV"),
+        PenForm::Xyorg => padded(b"XYORG"),
+        PenForm::Xyorgv => padded(b"XYORGV"),
     }
 }
 
@@ -157,6 +159,8 @@ fn pen_variables(form: PenForm) -> u16
         PenForm::Movetov => 2,
         PenForm::Movetor => 0,
         PenForm::Movetorv => 2,
+        PenForm::Xyorg => 0,
+        PenForm::Xyorgv => 2,
     }
 }
 

@@ -58,6 +58,7 @@ rule-keeps Op.Colour o n e = refl
 rule-keeps Op.Pattern o n e = refl
 rule-keeps Op.MoveTo o n e = refl
 rule-keeps Op.MoveBy o n e = refl
+rule-keeps Op.Origin o n e = refl
 rule-keeps Op.Pixel o n e = refl
 rule-keeps Op.PixelColour o n e = refl
 rule-keeps Op.Line o n e = refl

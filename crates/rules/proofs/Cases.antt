@@ -1,4 +1,4 @@
--- Document 01, 'Cases, whole answers': the starred cases with their variants, as one table of whole answers; some edges; the places of 23; the seven conditions; and document 02's circles and dashed lines.
+-- Document 01, 'Cases, whole answers': the starred cases with their variants, as one table of whole answers; some edges; the places of 23; the seven conditions; and document 02's circles, dashed lines and origins.
 use Prim.Native.Nat.{ℕ, _+_, _-_, _*_, _^_}
 use mathlib.Core.Path.{_≡_, refl}
 use mathlib.Core.List.{List, [], _∷_, map}
@@ -20,7 +20,7 @@ use Rattle.player.specs.Door.{doorOf}
 use Rattle.rules.specs.Types.{Bounds, Running, Ended, Stopped}
 use Rattle.rules.specs.Table.{formOf}
 use Rattle.rules.specs.Conditions.{allowed, met}
-use Rattle.rules.specs.Environment.{Env, env, start, put, moved, patterned, clipped, windowed, goto, stacked, stated, compared}
+use Rattle.rules.specs.Environment.{Env, env, start, put, moved, based, patterned, clipped, windowed, goto, stacked, stated, compared}
 use Rattle.rules.specs.Step.{carried, step}
 use Rattle.rules.specs.Door.{door, whole}
 use Rattle.rules.specs.Fresh.{fresh}
@@ -269,6 +269,47 @@ dashes =
     stops (0x0014 ∷ 0x0001 ∷ 0x0002 ∷ 0x0001 ∷ 0x0001 ∷ 0x0001 ∷ []) 24 0 e₀ 0 ∷  -- CIRS in type 1
     []
 
+-- ---- origins
+
+-- XYORG to (x, y), and a list behind it
+abbrev pub sliding : ℕ → ℕ → List ℕ → List ℕ
+sliding x y w = 0x0100 ∷ x ∷ y ∷ w
+
+abbrev pub from : ℕ → ℕ → Env → Env
+from x y e = based (record { x = pos x; y = pos y }) e
+
+-- the window of the dot (0, 0), in a mode, cleared to 7
+abbrev pub clearing : ℕ → List ℕ
+clearing mode = 0x0018 ∷ 0x0000 ∷ 0x0000 ∷ 0x0000 ∷ 0x0000 ∷ 0x0016 ∷ mode ∷ 0x0188 ∷ 0x0007 ∷ 0x0000 ∷ 0x0000 ∷ 0x0001 ∷ []
+
+abbrev pub clearedIn : ℕ → Env → Env
+clearedIn mode e = ended 15 (clipped mode (windowed (record { x0 = pos 0; y0 = pos 0; x1 = pos 0; y1 = pos 0 }) (from 2 1 e)))
+
+abbrev pub origins : List Case
+origins =
+    shows e₀ oneDot (case (sliding 2 1 (0x009E ∷ 0x0000 ∷ 0x0000 ∷ 0x0001 ∷ [])) 0 (ended 7 (from 2 1 e₀)) 3) ∷  -- PIXEL (0, 0)
+    shows e₀ oneDot (case (sliding 3 2 (sliding 2 1 (0x009E ∷ 0x0000 ∷ 0x0000 ∷ 0x0001 ∷ []))) 0 (ended 10 (from 2 1 e₀)) 4) ∷  -- not added to the old one
+    shows e₀  -- LINETO (1, 0), which moves the position there and no further
+    (0 ∷ 0 ∷ 0 ∷ 0 ∷ 0 ∷
+    0 ∷ 0 ∷ 15 ∷ 15 ∷ 0 ∷
+    0 ∷ 0 ∷ 0 ∷ 0 ∷ 0 ∷ [])
+    (case (sliding 2 1 (0x007C ∷ 0x0000 ∷ 0x0001 ∷ 0x0000 ∷ 0x0001 ∷ [])) 0 (ended 8 (moved (record { x = pos 1; y = pos 0 }) (from 2 1 e₀))) 3) ∷
+    shows e₂  -- LINE from (-4, 0) to (0, 2), in the pane from column 2 on, which stays
+    slopedIn (case (sliding 4 0 (0x0074 ∷ 0x0000 ∷ 0xFFFC ∷ 0x0000 ∷ 0x0000 ∷ 0x0002 ∷ 0x0001 ∷ [])) 0 (ended 10 (from 4 0 e₂)) 3) ∷
+    shows e₀  -- a window in mode 1
+    (0 ∷ 0 ∷ 0 ∷ 0 ∷ 0 ∷
+    0 ∷ 0 ∷ 7 ∷ 0 ∷ 0 ∷
+    0 ∷ 0 ∷ 0 ∷ 0 ∷ 0 ∷ [])
+    (case (sliding 2 1 (clearing 0x0001)) 0 (clearedIn 1 e₀) 5) ∷
+    shows e₀  -- and in mode 2
+    (7 ∷ 0 ∷ 0 ∷ 0 ∷ 0 ∷
+    0 ∷ 0 ∷ 0 ∷ 0 ∷ 0 ∷
+    0 ∷ 0 ∷ 0 ∷ 0 ∷ 0 ∷ [])
+    (case (sliding 2 1 (clearing 0x0002)) 0 (clearedIn 2 e₀) 5) ∷
+    case (sliding 0x7FFF 0x7FFF (0x009E ∷ 0x7FFF ∷ 0x7FFF ∷ 0x0001 ∷ [])) 0 (ended 7 (from 0x7FFF 0x7FFF e₀)) 3 ∷  -- PIXEL (32,767, 32,767): 65,534, no dot
+    stops (0x0066 ∷ 0x8000 ∷ 0x0000 ∷ 0x0001 ∷ 0x0101 ∷ 0x0000 ∷ []) 25 4 (at 4 (var 1 32768 e₀)) 1 ∷  -- XYORGV, y 32,768
+    []
+
 abbrev pub played : Case → Answer Env
 played c = whole c.words blank c.env c.budget
 
@@ -296,10 +337,14 @@ pub dashed-lines : map played dashes ≡ map (λ (c : Case). c.want) dashes
 unfolding signed32 signed16 low32 inWord isRadius recolourFrom someBelow drawable paint line side dashed bit disc formOf carried step doorOf door answered runs
 dashed-lines = refl
 
+pub slid : map played origins ≡ map (λ (c : Case). c.want) origins
+unfolding signed32 signed16 low32 inWord recolourFrom someBelow drawable paint line side formOf carried step doorOf door answered runs
+slid = refl
+
 -- the fresh environment, field by field
 pub fresh-fields : e₀
     ≡ env (bounds 0) (replicate 64 0)
-    (record { position = record { x = pos 0; y = pos 0 }; colour = 15; pattern = 0xFFFFFFFF; mode = 0; window = record { x0 = pos 0; y0 = pos 0; x1 = pos 4; y1 = pos 2 } })
+    (record { position = record { x = pos 0; y = pos 0 }; origin = record { x = pos 0; y = pos 0 }; colour = 15; pattern = 0xFFFFFFFF; mode = 0; window = record { x0 = pos 0; y0 = pos 0; x1 = pos 4; y1 = pos 2 } })
     (record { counter = start; stack = []; first = 0; second = 0 })
     Running
 fresh-fields = refl

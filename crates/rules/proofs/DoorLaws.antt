@@ -11,15 +11,15 @@ use lib.IntN.{ℤ, pos}
 use borrow.Author.Tests.{leb-true, ltb-true, le-leb}
 use Rattle.numbers.specs.Coordinate.{inWord}
 use Rattle.numbers.proofs.Coordinates.{within-mag}
-use Rattle.raster.specs.Frame.{Coord, Sound, Fitting}
+use Rattle.raster.specs.Frame.{Word, Sound, Fitting}
 use Rattle.player.specs.Hosted.{Request}
 use Rattle.player.specs.Run.{runs}
 use Rattle.player.proofs.Runs.{invariant}
 use Rattle.player.proofs.Doors as Doors
-use Rattle.rules.specs.Types.{Bounds, Window}
+use Rattle.rules.specs.Types.{Bounds, Dot, Window}
 use Rattle.rules.specs.Environment.{Env, frame}
 use Rattle.rules.specs.Step.{afgis}
-use Rattle.rules.specs.Door.{sizeFits, paneFits, windowFits, between, fits, door}
+use Rattle.rules.specs.Door.{sizeFits, paneFits, dotFits, windowFits, between, fits, door}
 use Rattle.rules.specs.Fresh.{fresh}
 use Rattle.rules.proofs.Ranges.{both, one, other, Fits, joined, parted}
 use Rattle.rules.proofs.Kept.{step-keeps}
@@ -33,8 +33,11 @@ unfolding door
 opened q e bytes h = Doors.opened q (e .bounds) (fits e) bytes h
 
 -- ---- what is let in may be drawn on
-pub coord : (z : ℤ) → inWord z ≡ true → Coord z
-coord z h = record { small = omega (arith, within-mag z h) }
+pub word : (z : ℤ) → inWord z ≡ true → Word z
+word z h = record { small = omega (arith, within-mag z h) }
+
+pub logical : (p : Dot) → dotFits p ≡ true → Word (p .x) × Word (p .y)
+logical p h = (word (p .x) (one _ _ h), word (p .y) (other (inWord (p .x)) _ h))
 
 pub sound : (b : Bounds) → sizeFits b ≡ true → paneFits b ≡ true → Sound b
 sound b s p =
@@ -53,16 +56,16 @@ sound b s p =
       bottom-inside = ltb-true _ _ (other (leb (b .pane .top) (b .pane .bottom)) _ y);
     }
 
-words : (w : Window) → windowFits w ≡ true → Coord (w .x0) × Coord (w .y0) × Coord (w .x1) × Coord (w .y1)
+words : (w : Window) → windowFits w ≡ true → Word (w .x0) × Word (w .y0) × Word (w .x1) × Word (w .y1)
 words w h =
-    let p = one (inWord (w .x0) && inWord (w .y0)) _ h in
-    let q = other (inWord (w .x0) && inWord (w .y0)) _ h in
-    (coord (w .x0) (one _ _ p), coord (w .y0) (other (inWord (w .x0)) _ p), coord (w .x1) (one _ _ q), coord (w .y1) (other (inWord (w .x1)) _ q))
+    let p = logical (record { x = w .x0; y = w .y0 }) (one _ _ h) in
+    let q = logical (record { x = w .x1; y = w .y1 }) (other (inWord (w .x0) && inWord (w .y0)) _ h) in
+    (p .0, p .1, q .0, q .1)
 
 pub fitting : (e : Env) (s : List ℕ) → sizeFits (e .bounds) ≡ true → fits e ≡ true → length s ≡ e .bounds .width * e .bounds .height → Fitting (frame e) s
 fitting e s size h area =
     let f = parted e h in
-    record { sane = record { bounds = sound (e .bounds) size (f .0); window = words (e .pen .window) (f .1 .window) }; bytes = area ∙ mul-comm (e .bounds .width) (e .bounds .height) }
+    record { sane = record { bounds = sound (e .bounds) size (f .0); origin = logical (e .pen .origin) (f .1 .origin); window = words (e .pen .window) (f .1 .window) }; bytes = area ∙ mul-comm (e .bounds .width) (e .bounds .height) }
 
 -- ---- what a run leaves
 module _ (w : List ℕ) (few : length w ≤ 65536) where
@@ -81,12 +84,12 @@ side n h = let k : n - 1 ≤ 2047 = omega (arith, leb-true n 2048 (other (leb 1 
 
 pub fresh-fits : (b : Bounds) → sizeFits b ≡ true → paneFits b ≡ true → fits (fresh b) ≡ true
 fresh-fits b s p =
-    let zero-fits = small-word 0 (lit≤ tt) in
+    let top-left = both _ _ (small-word 0 (lit≤ tt)) (small-word 0 (lit≤ tt)) in
     let w = side (b .width) (one (between 1 2048 (b .width)) (between 1 2048 (b .height)) s) in
     let h = side (b .height) (other (between 1 2048 (b .width)) (between 1 2048 (b .height)) s) in
     joined (fresh b) (
       p,
-      record { x = zero-fits; y = zero-fits; mode = refl; window = both _ _ (both _ _ zero-fits zero-fits) (both _ _ w h) },
+      record { position = top-left; origin = top-left; mode = refl; window = both _ _ top-left (both _ _ w h) },
       record { counter = refl; depth = refl; returns = refl },
       refl,
       refl,

@@ -1,16 +1,16 @@
 -- What the door lets in, every opcode leaves in range, carried out or refused.
 use Prim.Native.Nat.{ℕ, zero, suc, _+_, _-_, _/_, _%_, _≤_}
 use mathlib.Core.Path.{_≡_, refl}
-use mathlib.Core.Bool.{Bool, true, false, cond, not, _&&_}
+use mathlib.Core.Bool.{Bool, true, false, cond}
 use mathlib.Core.List.{List, [], _∷_, _++_}
 use native.Mathlib.Omega.{arith}
 use lib.ListN.{length, take, getD, length-append, length-take}
 use lib.Dec.{ltb, leb, eqb}
 use lib.IntN.{ℤ, pos, negsuc, _+ℤ_}
-use borrow.Author.Tests.{ltb-true, ltb-false, leb-true, leb-false, le-leb}
+use borrow.Author.Tests.{not-false, ltb-true, ltb-false, leb-true, leb-false, le-leb}
 use Rattle.numbers.specs.Number.{signed32}
-use Rattle.numbers.specs.Coordinate.{inWord}
 use Rattle.numbers.specs.Place.{past, wordOf, indexOf}
+use Rattle.raster.specs.Shapes.{shifted}
 use Rattle.player.specs.Player.{fault, Outcome, refused}
 use Rattle.player.proofs.Runs.{Leaves}
 use Rattle.rules.specs.Types.{WordIndex, BitAddress, Target, At, Refused, Bounds, Window, Dot, Operands, Stopped}
@@ -18,31 +18,29 @@ use Rattle.rules.specs.Op as Op
 use Rattle.rules.specs.Meaning.{Meaning, Unknown, Known, meaning}
 use Rattle.rules.specs.Table.{formOf}
 use Rattle.rules.specs.Operands.{at, operands, sizeOf, highest, firstAbove}
-use Rattle.rules.specs.Environment.{Env, start, goto, onward, moved, clipped, windowed, stated, pushed, popped, top}
-use Rattle.rules.specs.Opcodes.{Rule, rule, taken, far, absolute, relative, reach, point, shifted}
+use Rattle.rules.specs.Environment.{Env, start, goto, onward, moved, based, clipped, windowed, stated, pushed, popped, top}
+use Rattle.rules.specs.Opcodes.{Rule, rule, taken, far, absolute, relative, reach, point}
 use Rattle.rules.specs.Step.{check, carried, ruled, stepAt, step, afgis}
-use Rattle.rules.specs.Door.{indices, between, windowFits}
+use Rattle.rules.specs.Door.{indices, between, dotFits, windowFits}
 use Rattle.rules.proofs.Ranges.{both, one, other, neither, Fits}
 use Rattle.rules.proofs.Places.{within}
 
-near : (p : Dot) → far p ≡ false → (inWord (p .x) ≡ true) × (inWord (p .y) ≡ true)
-near p h = go (inWord (p .x)) (inWord (p .y)) h
-  where
-    go : (a b : Bool) → not (a && b) ≡ false → (a ≡ true) × (b ≡ true)
-    go true true q = (refl, refl)
-    go true false q = (refl, cc)
-    go false b q = (cc, cc)
+near : (p : Dot) → far p ≡ false → dotFits p ≡ true
+near p h = not-false (dotFits p) h
 
 -- ---- one field changed, and in range
 module _ {b : Bounds} (e : Env) (h : Fits b e) where
   placed : (p : Dot) → far p ≡ false → Fits b (moved p e)
-  placed p f = let n = near p f in (h .0, record { x = n .0; y = n .1; mode = h .1 .mode; window = h .1 .window }, h .2, h .3, h .4)
+  placed p f = (h .0, record { position = near p f; origin = h .1 .origin; mode = h .1 .mode; window = h .1 .window }, h .2, h .3, h .4)
+
+  at-origin : (p : Dot) → far p ≡ false → Fits b (based p e)
+  at-origin p f = (h .0, record { position = h .1 .position; origin = near p f; mode = h .1 .mode; window = h .1 .window }, h .2, h .3, h .4)
 
   in-mode : (m : ℕ) → m ≤ 2 → Fits b (clipped m e)
-  in-mode m k = (h .0, record { x = h .1 .x; y = h .1 .y; mode = le-leb m 2 k; window = h .1 .window }, h .2, h .3, h .4)
+  in-mode m k = (h .0, record { position = h .1 .position; origin = h .1 .origin; mode = le-leb m 2 k; window = h .1 .window }, h .2, h .3, h .4)
 
   in-window : (w : Window) → windowFits w ≡ true → Fits b (windowed w e)
-  in-window w k = (h .0, record { x = h .1 .x; y = h .1 .y; mode = h .1 .mode; window = k }, h .2, h .3, h .4)
+  in-window w k = (h .0, record { position = h .1 .position; origin = h .1 .origin; mode = h .1 .mode; window = k }, h .2, h .3, h .4)
 
   gone : (i : WordIndex) → i .0 ≤ 65536 → Fits b (goto i e)
   gone i k = (h .0, h .1, record { counter = le-leb (i .0) 65536 k; depth = h .2 .depth; returns = h .2 .returns }, h .3, h .4)
@@ -135,11 +133,12 @@ module _ (o : Operands) (n : ℕ) (few : n ≤ 65536) where
       let g = neither _ _ (f .1) in
       let p = near (point (o .a) (o .b)) (g .0) in
       let q = near (point (o .c) (o .d)) (g .1) in
-      in-window e h _ (both _ _ (both _ _ (p .0) (p .1)) (both _ _ (q .0) (q .1)))
+      in-window e h _ (both _ _ p q)
   rule-keeps Op.Colour e h f = h
   rule-keeps Op.Pattern e h f = h
   rule-keeps Op.MoveTo e h f = placed e h (point (o .a) (o .b)) (f .1)
   rule-keeps Op.MoveBy e h f = placed e h (shifted (e .pen .position) (point (o .a) (o .b))) (neither (far (point (o .a) (o .b))) _ (f .1) .1)
+  rule-keeps Op.Origin e h f = at-origin e h (point (o .a) (o .b)) (f .1)
   rule-keeps Op.Pixel e h f = h
   rule-keeps Op.PixelColour e h f = h
   rule-keeps Op.Line e h f = h

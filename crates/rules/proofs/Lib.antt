@@ -10,5 +10,6 @@ pub mod Refusals
 pub mod Slices
 pub mod Unique
 pub mod LineTypes
+pub mod Origins
 pub mod Cases
 pub mod Useless

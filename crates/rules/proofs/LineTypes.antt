@@ -3,6 +3,7 @@ use Prim.Native.Nat.{ℕ}
 use mathlib.Core.Path.{_≡_, ap, _∙_}
 use mathlib.Core.Bool.{Bool, _||_}
 use lib.IntN.{ℤ}
+use Rattle.raster.specs.Shapes.{shifted}
 use Rattle.lines.specs.Line.{line}
 use Rattle.lines.specs.Dashes.{dashed, solid}
 use Rattle.lines.proofs.Directions.{swap-ends}
@@ -11,7 +12,7 @@ use Rattle.player.specs.Player.{Outcome}
 use Rattle.rules.specs.Types.{Dot, Line, Operands}
 use Rattle.rules.specs.Op as Op
 use Rattle.rules.specs.Environment.{Env, moved}
-use Rattle.rules.specs.Opcodes.{Rule, point, shifted, far, typed, draws, rule}
+use Rattle.rules.specs.Opcodes.{Rule, point, far, typed, draws, rule}
 use Rattle.rules.specs.Step.{carried}
 
 -- operands with another type

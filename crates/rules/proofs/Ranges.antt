@@ -3,11 +3,10 @@ use mathlib.Core.Path.{_≡_, refl}
 use mathlib.Core.Bool.{Bool, true, false, _&&_, _||_}
 use lib.ListN.{length}
 use lib.Dec.{leb}
-use Rattle.numbers.specs.Coordinate.{inWord}
 pub use Rattle.player.proofs.Doors.{one, other}
 use Rattle.rules.specs.Types.{Bounds}
 use Rattle.rules.specs.Environment.{Pen, Flow, Env}
-use Rattle.rules.specs.Door.{paneFits, windowFits, indices, stateFits, penFits, flowFits, fits}
+use Rattle.rules.specs.Door.{paneFits, dotFits, windowFits, indices, stateFits, penFits, flowFits, fits}
 
 -- ---- tests
 pub both : (a b : Bool) → a ≡ true → b ≡ true → (a && b) ≡ true
@@ -21,8 +20,8 @@ neither false b p = (refl, p)
 abbrev pub PenFits : Pen → Type 0
 PenFits p =
     record {
-      x : inWord (p .position .x) ≡ true;
-      y : inWord (p .position .y) ≡ true;
+      position : dotFits (p .position) ≡ true;
+      origin : dotFits (p .origin) ≡ true;
       mode : leb (p .mode) 2 ≡ true;
       window : windowFits (p .window) ≡ true;
     }
@@ -36,13 +35,13 @@ FlowFits f =
     }
 
 pen-joined : (p : Pen) → PenFits p → penFits p ≡ true
-pen-joined p h = simp (h .x, h .y, h .mode, h .window)
+pen-joined p h = simp (h .position, h .origin, h .mode, h .window)
 
 pen-parted : (p : Pen) → penFits p ≡ true → PenFits p
 pen-parted p h =
-    let p1 = other (inWord (p .position .x)) _ h in
-    let p2 = other (inWord (p .position .y)) _ p1 in
-    record { x = one _ _ h; y = one _ _ p1; mode = one _ _ p2; window = other (leb (p .mode) 2) _ p2 }
+    let p1 = other (dotFits (p .position)) _ h in
+    let p2 = other (dotFits (p .origin)) _ p1 in
+    record { position = one _ _ h; origin = one _ _ p1; mode = one _ _ p2; window = other (leb (p .mode) 2) _ p2 }
 
 flow-joined : (f : Flow) → FlowFits f → flowFits f ≡ true
 flow-joined f h = simp (h .counter, h .depth, h .returns)

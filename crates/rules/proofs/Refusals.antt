@@ -63,6 +63,7 @@ rule-goes Op.Colour o n e h = h
 rule-goes Op.Pattern o n e h = h
 rule-goes Op.MoveTo o n e h = h
 rule-goes Op.MoveBy o n e h = h
+rule-goes Op.Origin o n e h = h
 rule-goes Op.Pixel o n e h = h
 rule-goes Op.PixelColour o n e h = h
 rule-goes Op.Line o n e h = h

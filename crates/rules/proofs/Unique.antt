@@ -60,6 +60,7 @@ alike a b h =
       bounds = ap (λ (e : Env). e .bounds) h;
       registers = λ i. record {
         position = h i .pen .position;
+        origin = h i .pen .origin;
         window = h i .pen .window;
         mode = h i .pen .mode;
         pattern = h i .pen .pattern;

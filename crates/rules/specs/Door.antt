@@ -11,7 +11,7 @@ use Rattle.player.specs.Run.{Answer, answer}
 use Rattle.player.specs.Hosted.{Request, Hosted, answered}
 use Rattle.player.specs.Door.{doorOf}
 pub use Rattle.player.specs.Door.{between, sizeFits, paneFits}
-use Rattle.rules.specs.Types.{WordIndex, Window, State, Running, Ended, Stopped}
+use Rattle.rules.specs.Types.{WordIndex, Dot, Window, State, Running, Ended, Stopped}
 use Rattle.rules.specs.declared.environment.Env as Held
 use Rattle.rules.specs.declared.answer.Answer as Came
 use Rattle.rules.specs.Environment.{Pen, Flow, Env, held}
@@ -19,7 +19,11 @@ use Rattle.rules.specs.Step.{afgis}
 
 -- ---- ranges: those of size and pane, and the order of 10 to 14, are every player's
 
--- four signed words
+-- two signed words
+abbrev pub dotFits : Dot → Bool
+dotFits p = inWord p.x && inWord p.y
+
+-- four
 abbrev pub windowFits : Window → Bool
 windowFits w = inWord w.x0 && inWord w.y0 && (inWord w.x1 && inWord w.y1)
 
@@ -38,9 +42,9 @@ stateFits Running = true
 stateFits Ended = true
 stateFits (Stopped v) = between 20 29 v.number && leb (v .place .0) 65536
 
--- position and window are signed words, the clip mode is 0 to 2; any colour and any pattern is in range by its type
+-- position, origin and window are signed words, the clip mode is 0 to 2; any colour and any pattern is in range by its type
 abbrev pub penFits : Pen → Bool
-penFits p = inWord (p .position .x) && (inWord (p .position .y) && (leb p.mode 2 && windowFits p.window))
+penFits p = dotFits p.position && (dotFits p.origin && (leb p.mode 2 && windowFits p.window))
 
 -- compared values are in range by their types
 abbrev pub flowFits : Flow → Bool

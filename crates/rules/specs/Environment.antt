@@ -12,7 +12,8 @@ use Rattle.rules.specs.declared.environment.Env as Held
 
 -- how is drawn
 pub record Pen : Type 0 where
-  pub position : Dot
+  pub position : Dot  -- relative to the origin
+  pub origin : Dot  -- the logical origin
   pub colour : ℕ  -- the foreground colour
   pub pattern : ℕ  -- the line pattern, 32 bits
   pub mode : ℕ  -- the clip mode
@@ -54,19 +55,22 @@ abbrev pub put : VarNo → ℕ → Env → Env
 put d v e = env e.bounds (set e.variables (d .0) v) e.pen e.flow e.state
 
 abbrev pub moved : Dot → Env → Env
-moved p e = let k = e.pen in penned (record { position = p; colour = k.colour; pattern = k.pattern; mode = k.mode; window = k.window }) e
+moved p e = let k = e.pen in penned (record { position = p; origin = k.origin; colour = k.colour; pattern = k.pattern; mode = k.mode; window = k.window }) e
+
+abbrev pub based : Dot → Env → Env
+based o e = let k = e.pen in penned (record { position = k.position; origin = o; colour = k.colour; pattern = k.pattern; mode = k.mode; window = k.window }) e
 
 abbrev pub coloured : ℕ → Env → Env
-coloured c e = let k = e.pen in penned (record { position = k.position; colour = c; pattern = k.pattern; mode = k.mode; window = k.window }) e
+coloured c e = let k = e.pen in penned (record { position = k.position; origin = k.origin; colour = c; pattern = k.pattern; mode = k.mode; window = k.window }) e
 
 abbrev pub patterned : ℕ → Env → Env
-patterned o e = let k = e.pen in penned (record { position = k.position; colour = k.colour; pattern = o; mode = k.mode; window = k.window }) e
+patterned o e = let k = e.pen in penned (record { position = k.position; origin = k.origin; colour = k.colour; pattern = o; mode = k.mode; window = k.window }) e
 
 abbrev pub clipped : ℕ → Env → Env
-clipped m e = let k = e.pen in penned (record { position = k.position; colour = k.colour; pattern = k.pattern; mode = m; window = k.window }) e
+clipped m e = let k = e.pen in penned (record { position = k.position; origin = k.origin; colour = k.colour; pattern = k.pattern; mode = m; window = k.window }) e
 
 abbrev pub windowed : Window → Env → Env
-windowed w e = let k = e.pen in penned (record { position = k.position; colour = k.colour; pattern = k.pattern; mode = k.mode; window = w }) e
+windowed w e = let k = e.pen in penned (record { position = k.position; origin = k.origin; colour = k.colour; pattern = k.pattern; mode = k.mode; window = w }) e
 
 abbrev pub goto : WordIndex → Env → Env
 goto i e = let k = e.flow in flowed (record { counter = i; stack = k.stack; first = k.first; second = k.second }) e
@@ -91,9 +95,9 @@ popped e = stacked (take (length (e .flow .stack) - 1) (e .flow .stack)) e
 abbrev pub top : Env → WordIndex
 top e = getD (e .flow .stack) (length (e .flow .stack) - 1) start
 
--- what may be drawn on: screen and pane, mode and window
+-- what may be drawn on, and from where: screen and pane, origin, mode and window
 abbrev pub frame : Env → Frame
-frame e = record { bounds = e.bounds; mode = e .pen .mode; window = e .pen .window }
+frame e = record { bounds = e.bounds; origin = e .pen .origin; mode = e .pen .mode; window = e .pen .window }
 
 -- ---- what the program's struct stands for
 
@@ -118,7 +122,7 @@ firsts (suc n) [] = start ∷ firsts n []
 firsts (suc n) (x ∷ xs) = x ∷ firsts n xs
 
 abbrev pub penOf : Registers → Pen
-penOf r = record { position = r.position; colour = r.colour; pattern = r.pattern; mode = r.mode; window = r.window }
+penOf r = record { position = r.position; origin = r.origin; colour = r.colour; pattern = r.pattern; mode = r.mode; window = r.window }
 
 -- what lies past the last return stacked is no part of it
 abbrev pub flowOf : Registers → List WordIndex → Flow

@@ -5,24 +5,22 @@ use mathlib.Core.Bool.{cond}
 use mathlib.Core.List.{[]}
 use lib.ListN.{replicate}
 use lib.IntN.{pos}
+use Rattle.raster.specs.Shapes.{topLeft}
 use Rattle.lines.specs.Dashes.{solid}
-use Rattle.rules.specs.Types.{Bounds, Dot, Window, Running}
+use Rattle.rules.specs.Types.{Bounds, Window, Running}
 use Rattle.rules.specs.declared.answer.Made as Came
 use Rattle.rules.specs.Environment.{Env, env, start, held}
 use Rattle.rules.specs.Door.{sizeFits, paneFits}
-
-abbrev pub origin : Dot
-origin = record { x = pos 0; y = pos 0 }
 
 -- from the top left to (x, y)
 abbrev pub corner : ℕ → ℕ → Window
 corner x y = record { x0 = pos 0; y0 = pos 0; x1 = pos x; y1 = pos y }
 
--- variables 0, position (0, 0), compared values 0 and 0, counter 0, stack empty, running
+-- variables 0, position (0, 0), origin (0, 0), compared values 0 and 0, counter 0, stack empty, running
 abbrev pub blank : Bounds → ℕ → ℕ → Window → Env
 blank b colour pattern w =
     env b (replicate 64 0)
-    (record { position = origin; colour = colour; pattern = pattern; mode = 0; window = w })
+    (record { position = topLeft; origin = topLeft; colour = colour; pattern = pattern; mode = 0; window = w })
     (record { counter = start; stack = []; first = 0; second = 0 })
     Running
 

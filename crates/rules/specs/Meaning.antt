@@ -1,4 +1,4 @@
--- Document 01, 'Opcodes of the base', and document 02, T-01 and T-03: what each opcode does and where its operands come from. The comments are the paper's names with their operands.
+-- Document 01, 'Opcodes of the base', and document 02, T-01, T-03 and T-06: what each opcode does and where its operands come from. The comments are the paper's names with their operands.
 use mathlib.Core.List.{[], _∷_}
 use Rattle.rules.specs.declared.opcode.FlowForm.{FlowForm}
 use Rattle.rules.specs.declared.opcode.FlowForm.the-variants as Flows
@@ -59,6 +59,8 @@ pen Pens.Moveto = Known Op.MoveTo (plain 2)  -- MOVETO x y
 pen Pens.Movetov = Known Op.MoveTo (from 2 ∷ [])  -- MOVETOV Vi
 pen Pens.Movetor = Known Op.MoveBy (plain 2)  -- MOVETOR dx dy
 pen Pens.Movetorv = Known Op.MoveBy (from 2 ∷ [])  -- MOVETORV Vi
+pen Pens.Xyorg = Known Op.Origin (plain 2)  -- XYORG x y
+pen Pens.Xyorgv = Known Op.Origin (from 2 ∷ [])  -- XYORGV Vi
 
 abbrev pub paint : PaintForm → Meaning
 paint Paints.Cir = Known Op.Outline (plain 4)  -- CIR type x y radius

@@ -23,6 +23,7 @@ pub data Op : Type 0 where
   Pattern : Op
   MoveTo : Op
   MoveBy : Op
+  Origin : Op
   Pixel : Op
   PixelColour : Op
   Line : Op

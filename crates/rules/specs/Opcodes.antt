@@ -1,4 +1,4 @@
--- Document 01, 'Opcodes of the base', and document 02, T-01 and T-03: what each op does, one clause an op. A clause finds the counter at the next opcode.
+-- Document 01, 'Opcodes of the base', and document 02, T-01, T-03 and T-06: what each op does, one clause an op. A clause finds the counter at the next opcode.
 use Prim.Native.Nat.{ℕ}
 use mathlib.Core.Bool.{Bool, true, false, cond, not, _&&_, _||_}
 use lib.ListN.{length}
@@ -8,14 +8,14 @@ use lib.IntN.{ℤ, pos, _+ℤ_}
 use Rattle.numbers.specs.Number.{signed32, low8, sum32, difference32, product32, quotient32, remainder32}
 use Rattle.numbers.specs.Coordinate.{inWord, isRadius}
 use Rattle.numbers.specs.Place.{wordOf, indexOf}
-use Rattle.raster.specs.Shapes.{Shape, dot, all}
+use Rattle.raster.specs.Shapes.{Shape, dot, shifted, all}
 use Rattle.lines.specs.Line.{line}
 use Rattle.lines.specs.Dashes.{dashed}
 use Rattle.circles.specs.Circle.{disc, outline}
 use Rattle.rules.specs.Types.{Target, At, Refused, Dot, Window, Line, Circle, Operands, Ended}
 use Rattle.rules.specs.Op as Op
 use Rattle.rules.specs.Operands.{at}
-use Rattle.rules.specs.Environment.{Env, put, moved, coloured, patterned, clipped, windowed, compared, goto, stated, pushed, popped, top}
+use Rattle.rules.specs.Environment.{Env, put, moved, based, coloured, patterned, clipped, windowed, compared, goto, stated, pushed, popped, top}
 use Rattle.rules.specs.Conditions.{allowed, met}
 
 -- ---- what an op says: which of 24 to 29 it breaks, the environment after it, which dots it paints and in which colour
@@ -82,10 +82,6 @@ calls t e = refuse 27 (missing t) (refuse 28 (leb 16 (length (e .flow .stack))) 
 abbrev pub point : ℕ → ℕ → Dot
 point a b = record { x = signed32 a; y = signed32 b }
 
--- moved by offsets
-abbrev pub shifted : Dot → Dot → Dot
-shifted p d = record { x = p.x +ℤ d.x; y = p.y +ℤ d.y }
-
 -- a coordinate is outside -32,768 to 32,767
 abbrev pub far : Dot → Bool
 far p = not (inWord p.x && inWord p.y)
@@ -146,6 +142,7 @@ rule Op.MoveBy o n e =
     let d = point o.a o.b in
     let p = shifted (e .pen .position) d in
     refuse 25 (far d || far p) (leaves (moved p e))
+rule Op.Origin o n e = let p = point o.a o.b in refuse 25 (far p) (leaves (based p e))
 rule Op.Pixel o n e = dots (point o.a o.b) (e .pen .colour) e
 rule Op.PixelColour o n e = dots (point o.a o.b) (low8 o.c) e
 rule Op.Line o n e =

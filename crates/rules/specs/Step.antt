@@ -5,6 +5,7 @@ use mathlib.Core.List.{List}
 use lib.ListN.{length}
 use lib.Dec.{ltb, leb}
 use Rattle.numbers.specs.Place.{past}
+use Rattle.player.specs.Painting.{placed}
 use Rattle.player.specs.Player.{fault, Outcome, done, refused, Player}
 use Rattle.rules.specs.Types.{WordIndex, Stopped}
 use Rattle.rules.specs.Meaning.{Meaning, Unknown, Known, meaning}
@@ -42,7 +43,7 @@ ruled Unknown w e = leaves e
 ruled (Known op s) w e = rule op (operands s w (e .flow .counter .0) e.variables) (length w) (onward (sizeOf s) e)
 
 -- the end of the order: the lowest of 24 to 29 that a rule breaks, where the opcode begins, or what it says; what is painted goes by the environment before
--- the opcode
+-- the opcode, and is moved to its origin
 unfoldable pub carried : Rule → Env → Outcome Env
 carried r e =
     let pc = e .flow .counter in
@@ -52,7 +53,7 @@ carried r e =
     (check 27 pc (r .breaks 27)
     (check 28 pc (r .breaks 28)
     (check 29 pc (r .breaks 29)
-    (done r.env (record { frame = frame e; shape = r.shape; colour = r.colour })))))))
+    (done r.env (placed (frame e) r.shape r.colour)))))))
 
 -- 20 to 29, lowest first: where the opcode begins or was due, 23 at an operand
 abbrev pub judged : Meaning → Rule → List ℕ → Env → Outcome Env

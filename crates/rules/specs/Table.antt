@@ -1,4 +1,4 @@
--- Document 01, 'Opcodes of the base', and document 02, T-01 and T-03: every opcode's number, in order. The numbers are theirs, RTRN's is that of 004's alphabetical list.
+-- Document 01, 'Opcodes of the base', and document 02, T-01, T-03 and T-06: every opcode's number, in order. The numbers are theirs, RTRN's is that of 004's alphabetical list.
 use Prim.Native.Nat.{ℕ}
 use mathlib.Core.Bool.{cond}
 use mathlib.Core.List.{List, [], _∷_}
@@ -64,6 +64,8 @@ table =
     row 0x009E (Paint Paints.Pixel) ∷
     row 0x009F (Paint Paints.Pixelv) ∷
     row 0x00B9 (Flow Flows.Rtrn) ∷
+    row 0x0100 (Pen Pens.Xyorg) ∷
+    row 0x0101 (Pen Pens.Xyorgv) ∷
     row 0x010A (Flow Flows.Jumpa) ∷
     row 0x010C (Flow Flows.Jumpr) ∷
     row 0x010E (Flow Flows.Calr) ∷

@@ -15,6 +15,7 @@ ghost use Rattle.rules.specs.Environment.{carries0, stateOf};
 #[repr(C)]
 pub struct Registers {
     pub position: Dot,
+    pub origin: Dot,
     pub window: Window,
     pub mode: u32,
     pub pattern: u32,

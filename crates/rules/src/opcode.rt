@@ -1,4 +1,4 @@
-// Document 01, 'Opcodes of the base', and document 02, T-01 and T-03: the opcodes by their names on the paper, and what was read behind one.
+// Document 01, 'Opcodes of the base', and document 02, T-01, T-03 and T-06: the opcodes by their names on the paper, and what was read behind one.
 use numbers::place::VarNo;
 
 // Those that go elsewhere, end or do nothing,
@@ -48,6 +48,8 @@ pub enum PenForm {
     Movetov,
     Movetor,
     Movetorv,
+    Xyorg,
+    Xyorgv,
 }
 
 // and those that paint.

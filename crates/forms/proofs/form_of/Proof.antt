@@ -63,4 +63,6 @@ form-of-spec =
     (λ c. search at)
     (λ c. search at)
     (λ c. search at)
+    (λ c. search at)
+    (λ c. search at)
     (λ c. sym (unknown _ (c .match .rest))))
