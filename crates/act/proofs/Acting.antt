@@ -10,7 +10,7 @@ use Rattle.raster.specs.declared.frame.Frame.{Frame}
 use Rattle.raster.specs.Shapes.{Shape}
 use Rattle.raster.specs.Frame.{drawable}
 use Rattle.brush.specs.Brush.{Holds}
-use Rattle.player.specs.Painting.{Painting, nothing}
+use Rattle.player.specs.Painting.{Painting, placed, nothing}
 use Rattle.player.specs.declared.Upshot.{Upshot}
 use Rattle.player.specs.declared.Upshot.the-variants.{Brushed}
 use Rattle.player.specs.declared.State.{State}
@@ -42,7 +42,7 @@ refusedBy i (some n) o = refused (fault n i)
 refusedBy i none o = o
 
 abbrev painting : Rule → Env → Painting
-painting r e = record { frame = frame e; shape = r .shape; colour = r .colour }
+painting r e = placed (frame e) (r .shape) (r .colour)
 
 abbrev said : Rule → Env → Outcome Env
 said r e = done (r .env) (painting r e)

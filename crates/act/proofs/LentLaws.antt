@@ -12,7 +12,7 @@ use Rattle.raster.specs.declared.dots.Dot.{Dot}
 use Rattle.raster.specs.declared.frame.Window.{Window}
 use Rattle.brush.proofs.Spelt.{one-by-one}
 use Rattle.brush.proofs.Brushes.{byte}
-use Rattle.rules.specs.Environment.{start, goto, compared, clipped, coloured, patterned, stated, moved, windowed, stateOf}
+use Rattle.rules.specs.Environment.{start, goto, compared, clipped, coloured, patterned, stated, moved, windowed, based, stateOf}
 use Rattle.act.specs.Lent.{numbers, indexed, CellsFull, PointsFull, Recelled, Repointed, Deepened}
 
 module _ (cs : List ℕ) (l : CellsFull cs) where
@@ -59,6 +59,11 @@ module _ (ps : List ℤ) (l : PointsFull ps) where
       rw (ex0, ey0, ex1, ey1)
       (one-by-one (pos 0) (λ ps. Repointed (windowed w) ps (set (set (set (set ps 2 (w .x0)) 3 (w .y0)) 4 (w .x1)) 5 (w .y1)))
       ps l (record { full = refl; shows = λ b cs vs st. refl }))
+
+  pub origin-set : (p : Dot) {x y : ℤ} → x ≡ p .x → y ≡ p .y → Repointed (based p) ps (set (set ps 6 x) 7 y)
+  origin-set p ex ey =
+      rw (ex, ey)
+      (one-by-one (pos 0) (λ ps. Repointed (based p) ps (set (set ps 6 (p .x)) 7 (p .y))) ps l (record { full = refl; shows = λ b cs vs st. refl }))
 
 -- ---- sixteen, read one by one
 abbrev reads : {A : Type 0} → A → ℕ → ℕ → List A → List A

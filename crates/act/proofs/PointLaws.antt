@@ -14,21 +14,22 @@ use Rattle.numbers.specs.declared.coordinate.Coordinate.the-variants.{Within, O
 use Rattle.numbers.specs.declared.place.WordIndex.{WordIndex}
 use Rattle.numbers.proofs.Answers.{told-first, told-second, clash}
 use Rattle.raster.specs.declared.dots.Dot.{Dot}
-use Rattle.raster.specs.Frame.{Coord}
+use Rattle.raster.specs.Shapes.{shifted}
+use Rattle.raster.specs.Frame.{Word}
 use Rattle.circles.specs.declared.circle.Circle.{Circle}
 use Rattle.brush.specs.Brush.{Radius}
 use Rattle.brush.proofs.Brushes.{radius-natural, radius-back}
 use Rattle.player.specs.declared.Upshot.{Upshot}
-use Rattle.rules.specs.Opcodes.{far, shifted, dots}
+use Rattle.rules.specs.Opcodes.{far, dots}
 use Rattle.rules.proofs.Ranges.{one, other, neither}
-use Rattle.rules.proofs.DoorLaws.{coord}
+use Rattle.rules.proofs.DoorLaws.{word}
 use Rattle.act.specs.declared.point.Point as Answer
 use Rattle.act.specs.declared.point.Point.the-variants as Point
 use Rattle.act.specs.declared.point.Round as Rounded
 use Rattle.act.specs.declared.point.Round.the-variants as Round
 use Rattle.act.specs.Lent.{celled, look}
 use Rattle.act.specs.Shown.{does}
-use Rattle.act.specs.Contracts.{Paints, Coords}
+use Rattle.act.specs.Contracts.{Paints, Logical}
 use Rattle.act.specs.Point.{pointUnless, pointOf, pointBy, paired, roundUnless, roundOf}
 
 -- s and t: x and y are within a signed word
@@ -62,11 +63,11 @@ sum-judged p d q is px py qx qy = rw (same (p .x) px, same (p .y) py, same (q .x
 pub from : {h p : Dot} (d : Dot) {r : Answer.Point} → h ≡ p → r ≡ pointBy h d → r ≡ pointBy p d
 from d e is = is ∙ ap (λ p. pointBy p d) e
 
--- ---- what raster draws: a point that is not far has two coordinates
-pub near : (p : Dot) → far p ≡ false → Coords p
-near p e = let t = not-false (inWord (p .x) && inWord (p .y)) e in (coord (p .x) (one _ _ t), coord (p .y) (other (inWord (p .x)) _ t))
+-- ---- what a brush holds: a point that is not far has two signed words
+pub near : (p : Dot) → far p ≡ false → Logical p
+near p e = let t = not-false (inWord (p .x) && inWord (p .y)) e in (word (p .x) (one _ _ t), word (p .y) (other (inWord (p .x)) _ t))
 
-pub near-as : {p q : Dot} → p ≡ q → Coords q → Coords p
+pub near-as : {p q : Dot} → p ≡ q → Logical q → Logical p
 near-as e h = rw e h
 
 -- ---- what the answer r tells of the point p
@@ -113,7 +114,7 @@ module _ {r : Rounded.Round} (out : Bool) (k : Circle) (is : r ≡ roundUnless o
 
 -- what brush asks of it
 pub round-near : {l : Circle} (p : Dot) (z : ℤ) → ((far p || not (isRadius z)) ≡ false) × (l ≡ record { centre = p; radius = z })
-    → Coord (l .centre .x) × Coord (l .centre .y) × Radius (l .radius)
+    → Word (l .centre .x) × Word (l .centre .y) × Radius (l .radius)
 round-near p z t =
     let g = neither _ _ (t .0) in
     let n = near p (g .0) in

@@ -6,7 +6,7 @@ use lib.ListN.{length}
 use lib.IntN.{ℤ}
 use Rattle.raster.specs.declared.dots.Dot.{Dot}
 use Rattle.raster.specs.declared.frame.Bounds.{Bounds}
-use Rattle.raster.specs.Frame.{Coord}
+use Rattle.raster.specs.Frame.{Word}
 use Rattle.brush.specs.Brush.{Full, Near}
 use Rattle.player.specs.declared.Verdict.{Verdict}
 use Rattle.player.specs.declared.Upshot.{Upshot}
@@ -61,9 +61,9 @@ pub record Draws (u : Upshot) (shows : Showing) (cs cs' : List ℕ) (ps ps' : Li
   pub brush : Brushed p'
   pub tells : (b : Bounds) (vs st : List ℕ) → seen u (look b cs' ps' vs st) p' ≡ shows (look b cs ps vs st) p'
 
--- a point that raster draws to
-abbrev pub Coords : Dot → Type 0
-Coords p = Coord (p .x) × Coord (p .y)
+-- a point as a list gives it, relative to the origin: two signed words
+abbrev pub Logical : Dot → Type 0
+Logical p = Word (p .x) × Word (p .y)
 
 -- what an opcode is handed that paints
 abbrev pub Handed : List ℕ → List ℕ → Type 0
@@ -74,7 +74,7 @@ pub record Drawable (cs : List ℕ) (ps : List ℤ) (p : List ℕ) : Type 0 wher
   pub cells : CellsFull cs
   pub points : PointsFull ps
   pub brush : Brushed p
-  pub here : Coords (pointed ps .position)
+  pub here : Logical (pointed ps .position)
 
 -- at most 16 returns are stacked, in an array of 16
 pub record Stacked (cs st : List ℕ) : Type 0 where

@@ -16,7 +16,7 @@ abbrev pub CellsFull : List ℕ → Type 0
 CellsFull cs = length cs ≡ 9
 
 abbrev pub PointsFull : List ℤ → Type 0
-PointsFull ps = length ps ≡ 6
+PointsFull ps = length ps ≡ 8
 
 -- coordinate i
 abbrev pub coordinate : List ℤ → ℕ → ℤ
@@ -27,6 +27,7 @@ abbrev pub registers : List ℕ → List ℤ → Registers
 registers cs ps =
     record {
       position = record { x = coordinate ps 0; y = coordinate ps 1 };
+      origin = record { x = coordinate ps 6; y = coordinate ps 7 };
       window = record { x0 = coordinate ps 2; y0 = coordinate ps 3; x1 = coordinate ps 4; y1 = coordinate ps 5 };
       mode = at cs 4;
       pattern = at cs 8;
@@ -46,9 +47,9 @@ celled cs = registers cs []
 abbrev pub pointed : List ℤ → Registers
 pointed ps = registers [] ps
 
--- registers spread over both: position and window are the points, and cells hold the others where they are read
+-- registers spread over both: position, window and origin are the points, and cells hold the others where they are read
 abbrev pub points : Registers → List ℤ
-points r = r .position .x ∷ r .position .y ∷ r .window .x0 ∷ r .window .y0 ∷ r .window .x1 ∷ r .window .y1 ∷ []
+points r = r .position .x ∷ r .position .y ∷ r .window .x0 ∷ r .window .y0 ∷ r .window .x1 ∷ r .window .y1 ∷ r .origin .x ∷ r .origin .y ∷ []
 
 pub record Spread (r : Registers) (cs : List ℕ) : Type 0 where
   pub full : CellsFull cs

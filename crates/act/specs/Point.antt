@@ -5,8 +5,9 @@ use Rattle.numbers.specs.Coordinate.{isRadius}
 use Rattle.numbers.specs.declared.coordinate.Coordinate.{Coordinate}
 use Rattle.numbers.specs.declared.coordinate.Coordinate.the-variants as Coordinates
 use Rattle.raster.specs.declared.dots.Dot.{Dot}
+use Rattle.raster.specs.Shapes.{shifted}
 use Rattle.circles.specs.declared.circle.Circle.{Circle}
-use Rattle.rules.specs.Opcodes.{far, shifted}
+use Rattle.rules.specs.Opcodes.{far}
 use Rattle.act.specs.declared.point.Point.{Point}
 use Rattle.act.specs.declared.point.Point.the-variants.{At, Outside}
 use Rattle.act.specs.declared.point.Round.{Round}

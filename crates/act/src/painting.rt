@@ -35,7 +35,7 @@ ghost use Rattle.rules.specs.Opcodes as Opcodes;
 ghost use Rattle.rules.specs.Opcodes.{dots, typed, paints, rule};
 ghost use Rattle.act.specs.Lent.{celled};
 ghost use Rattle.act.specs.Shown.{does, answers};
-ghost use Rattle.act.specs.Contracts.{Paints, Draws, Handed, Drawable, Coords};
+ghost use Rattle.act.specs.Contracts.{Paints, Draws, Handed, Drawable, Logical};
 
 // One dot at the point (x, y).
 fn dot_at(x: u32, y: u32, c: u8, next: WordIndex, cells: &mut Cells, brush: &mut Brush) -> Upshot
@@ -93,7 +93,7 @@ fn other_type(last: u32, given: u32) -> bool
 // A line in the foreground colour: in type 0 all of it, else what the pattern paints.
 fn hold_typed(given: u32, l: Line, cells: &Cells, brush: &mut Brush)
     requires { ⌜ Full (now brush) ⌝ }
-    requires { ⌜ Coords (l .from) × Coords (l .to) ⌝ }
+    requires { ⌜ Logical (l .from) × Logical (l .to) ⌝ }
     ensures { λ _.
         ⌜ Holds (typed given (celled (now (cells .entry)) .pattern) l) (celled (now (cells .entry)) .colour) (now (brush .exit)) ⌝ }
 {
@@ -139,7 +139,7 @@ fn draw_to(
     points: &mut Points,
     brush: &mut Brush,
 ) -> Upshot
-    requires { ⌜ Drawable (now cells) (now points) (now brush) × Coords q ⌝ }
+    requires { ⌜ Drawable (now cells) (now points) (now brush) × Logical q ⌝ }
     ensures { λ r.
         ⌜ Draws r (does (λ e. paints (typed given (e .pen .pattern) (record { from = e .pen .position; to = q })) (e .pen .colour) (moved q e)) next)
         (now (cells .entry)) (now (cells .exit)) (now (points .entry)) (now (points .exit)) (now (brush .exit)) ⌝ }

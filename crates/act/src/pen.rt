@@ -1,4 +1,4 @@
-// Clip mode and window, colour, line pattern, position.
+// Clip mode and window, colour, line pattern, position, origin.
 use crate::point::Point;
 use crate::point::point_by;
 use crate::point::point_of;
@@ -9,6 +9,7 @@ use crate::registers::position;
 use crate::registers::refuse;
 use crate::registers::set_colour;
 use crate::registers::set_mode;
+use crate::registers::set_origin;
 use crate::registers::set_pattern;
 use crate::registers::set_position;
 use crate::registers::set_window;
@@ -140,6 +141,25 @@ pub fn move_by(t: Taken, cells: &mut Cells, points: &mut Points) -> Upshot
                 return refuse(cells, 25);
             };
             set_position(points, p);
+            finish(cells, next)
+        }
+    }
+}
+
+// a, b: x and y.
+pub fn origin(t: Taken, cells: &mut Cells, points: &mut Points) -> Upshot
+    requires { ⌜ CellsFull (now cells) × PointsFull (now points) ⌝ }
+    ensures { λ q.
+        ⌜ ((n : ℕ) → Moves q (answers t (λ o. rule Op.Origin o n))
+        (now (cells .entry)) (now (cells .exit)) (now (points .entry)) (now (points .exit))) ⌝ }
+{
+    match t {
+        Taken::Refused(n, i) => stop(cells, n, i),
+        Taken::Got(o, next) => {
+            let Point::At(p) = point_of(o.a, o.b) else {
+                return refuse(cells, 25);
+            };
+            set_origin(points, p);
             finish(cells, next)
         }
     }

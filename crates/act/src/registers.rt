@@ -15,7 +15,7 @@ ghost use Prim.Native.Nat.{ℕ};
 ghost use Rattle.player.specs.declared.State.the-variants.{Ended};
 ghost use Rattle.player.specs.Player.{fault};
 ghost use Rattle.rules.specs.Environment as Environment;
-ghost use Rattle.rules.specs.Environment.{goto, compared, clipped, coloured, patterned, stated, moved, windowed, stateOf};
+ghost use Rattle.rules.specs.Environment.{goto, compared, clipped, coloured, patterned, stated, moved, windowed, based, stateOf};
 ghost use Rattle.act.specs.Lent as Lent;
 ghost use Rattle.act.specs.Lent.{registers, celled, pointed, look, CellsFull, PointsFull, Recelled, Repointed, Deepened};
 ghost use Rattle.act.specs.Contracts.{Halts, HaltsHere};
@@ -23,8 +23,8 @@ ghost use Rattle.act.specs.Contracts.{Halts, HaltsHere};
 // Numbers, each at the place where the functions below read it.
 pub type Cells = [u32; 9];
 
-// Coordinates: 0 and 1 position, 2 to 5 window.
-pub type Points = [i32; 6];
+// Coordinates: 0 and 1 position, 2 to 5 window, 6 and 7 origin.
+pub type Points = [i32; 8];
 
 // Spread over the two arrays.
 pub fn cells_of(r: Registers) -> Cells
@@ -48,7 +48,8 @@ pub fn points_of(r: Registers) -> Points
 {
     let p = r.position;
     let w = r.window;
-    [p.x, p.y, w.x0, w.y0, w.x1, w.y1]
+    let o = r.origin;
+    [p.x, p.y, w.x0, w.y0, w.x1, w.y1, o.x, o.y]
 }
 
 // Out of the two arrays again.
@@ -57,6 +58,7 @@ pub fn gathered(cells: &Cells, points: &Points) -> Registers
 {
     Registers {
         position: position(points),
+        origin: origin(points),
         window: window(points),
         mode: mode(cells),
         pattern: pattern(cells),
@@ -263,12 +265,32 @@ pub fn set_window(points: &mut Points, w: Window)
     points[5] = y1;
 }
 
-// Size and pane, mode and window: what may be drawn on.
+pub fn origin(points: &Points) -> Dot
+    ensures { λ p. ⌜ p ≡ pointed (now (points .entry)) .origin ⌝ }
+{
+    Dot {
+        x: points[6],
+        y: points[7],
+    }
+}
+
+pub fn set_origin(points: &mut Points, p: Dot)
+    requires { ⌜ PointsFull (now points) ⌝ }
+    ensures { λ _. ⌜ Repointed (based p) (now (points .entry)) (now (points .exit)) ⌝ }
+{
+    let x = p.x;
+    let y = p.y;
+    points[6] = x;
+    points[7] = y;
+}
+
+// Size and pane, origin, mode and window: what may be drawn on, and from where.
 pub fn frame(b: Bounds, cells: &Cells, points: &Points) -> Frame
     ensures { λ f. ⌜ ((vs st : List ℕ) → f ≡ Environment.frame (look b (now (cells .entry)) (now (points .entry)) vs st)) ⌝ }
 {
     Frame {
         bounds: b,
+        origin: origin(points),
         mode: mode(cells),
         window: window(points),
     }

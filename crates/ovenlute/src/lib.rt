@@ -23,7 +23,7 @@ ghost use Rattle.rules.specs.Door.{Promise};
 ghost use Rattle.rules.specs.Fresh as Fresh;
 ghost use Rattle.wording.specs.Wording.{textOf, wordsOf};
 
-// Variables 0, position (0, 0), clip mode 0, window from the top left to (x, y), counter 0, stack empty, running.
+// Variables 0, position and origin (0, 0), clip mode 0, window from the top left to (x, y), counter 0, stack empty, running.
 fn blank(bounds: Bounds, colour: u8, pattern: u32, x: u32, y: u32) -> Env
     requires { ⌜ (x ≤ 2048) × (y ≤ 2048) ⌝ }
     ensures { λ e. ⌜ held e ≡ Fresh.blank bounds colour pattern (Fresh.corner x y) ⌝ }
@@ -32,6 +32,7 @@ fn blank(bounds: Bounds, colour: u8, pattern: u32, x: u32, y: u32) -> Env
         bounds,
         registers: Registers {
             position: Dot { x: 0, y: 0 },
+            origin: Dot { x: 0, y: 0 },
             window: Window {
                 x0: 0,
                 y0: 0,

@@ -64,6 +64,7 @@ holding e =
       bounds = e .bounds;
       registers = record {
         position = e .pen .position;
+        origin = e .pen .origin;
         window = e .pen .window;
         mode = e .pen .mode;
         pattern = e .pen .pattern;

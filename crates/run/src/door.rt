@@ -7,6 +7,7 @@ use act::stack::stacked_at;
 use numbers::coordinate::in_word;
 use numbers::place::WordIndex;
 use player::State;
+use raster::dots::Dot;
 use raster::frame::Bounds;
 use raster::frame::Window;
 use rules::environment::Registers;
@@ -19,6 +20,12 @@ ghost use lib.ListN.{length};
 ghost use Rattle.rules.specs.Environment.{firsts, penOf, flowOf, view};
 ghost use Rattle.rules.specs.Door as Door;
 ghost use Rattle.act.specs.Lent.{indexed};
+
+fn dot_fits(p: Dot) -> bool
+    ensures { λ r. ⌜ r ≡ Door.dotFits p ⌝ }
+{
+    both(in_word(p.x), in_word(p.y))
+}
 
 fn window_fits(w: Window) -> bool
     ensures { λ r. ⌜ r ≡ Door.windowFits w ⌝ }
@@ -75,9 +82,8 @@ fn stack_fits(stack: &Stack, depth: u32) -> bool
 fn pen_fits(r: Registers) -> bool
     ensures { λ f. ⌜ f ≡ Door.penFits (penOf r) ⌝ }
 {
-    let p = r.position;
     let clip = both(r.mode <= 2, window_fits(r.window));
-    both(in_word(p.x), both(in_word(p.y), clip))
+    both(dot_fits(r.position), both(dot_fits(r.origin), clip))
 }
 
 fn flow_fits(r: Registers, stack: &Stack) -> bool

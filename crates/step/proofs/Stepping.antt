@@ -24,7 +24,7 @@ use Rattle.rules.specs.Step.{step}
 use Rattle.rules.proofs.StackLaws.{length-firsts}
 use Rattle.rules.proofs.Unique.{stopped-state}
 use Rattle.rules.proofs.Ranges.{Fits, parted}
-use Rattle.rules.proofs.DoorLaws.{coord}
+use Rattle.rules.proofs.DoorLaws.{logical}
 use Rattle.fetch.specs.declared.source.Taken.the-variants.{Refused, Got}
 use Rattle.fetch.specs.Stages.{Reaches, takenOf}
 use Rattle.fetch.proofs.Steps as Fetched
@@ -78,7 +78,7 @@ module _ {w cs : List ℕ} {ps : List ℤ} {vs st p : List ℕ} where
           cells = h .ready .cells;
           points = h .ready .points;
           brush = h .ready .brush;
-          here = (coord (some .pen .position .x) (in-range .1 .x), coord (some .pen .position .y) (in-range .1 .y));
+          here = logical (some .pen .position) (in-range .1 .position);
         }
 
     pub stacked : Stacked cs st

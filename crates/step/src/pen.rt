@@ -40,5 +40,7 @@ pub fn step(
         PenForm::Movetov => pen::move_to(variables(words, pc, vars, 2), cells, points),
         PenForm::Movetor => pen::move_by(plain(words, pc, 2), cells, points),
         PenForm::Movetorv => pen::move_by(variables(words, pc, vars, 2), cells, points),
+        PenForm::Xyorg => pen::origin(plain(words, pc, 2), cells, points),
+        PenForm::Xyorgv => pen::origin(variables(words, pc, vars, 2), cells, points),
     }
 }

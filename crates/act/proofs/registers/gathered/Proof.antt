@@ -9,7 +9,8 @@ returns c =
     let pattern = counter .before .before .before in
     let mode = pattern .before in
     rw (
-      mode .before .before .position .ensures,
+      mode .before .before .before .position .ensures,
+      mode .before .before .origin .ensures,
       mode .before .window .ensures,
       mode .mode .ensures,
       pattern .pattern .ensures,
@@ -28,4 +29,5 @@ gathered-spec =
     (tie.spec
     (λ c κs. search needs) (λ c κs. search needs) (λ c κs. search needs) (λ c κs. search needs) (λ c κs. search needs)
     (λ c κs. search needs) (λ c κs. search needs) (λ c κs. search needs) (λ c κs. search needs) (λ c κs. search needs) (λ c κs. search needs)
+    (λ c κs. search needs)
     returns)
