@@ -40,7 +40,8 @@ fn print_bounds(bounds: Bounds) {
 }
 
 fn print_registers(registers: Registers) {
-    print_position(registers.position);
+    print_dot(b"position ", registers.position);
+    print_dot(b" origin ", registers.origin);
     count(b" colour ", registers.colour as usize);
     unsigned(b" pattern ", registers.pattern);
     unsigned(b" mode ", registers.mode);
@@ -56,9 +57,9 @@ fn print_registers(registers: Registers) {
     unsigned(b" depth ", registers.depth);
 }
 
-fn print_position(position: Dot) {
-    signed(b"position ", of_signed(position.x));
-    signed(b" ", of_signed(position.y));
+fn print_dot(name: &[u8], dot: Dot) {
+    signed(name, of_signed(dot.x));
+    signed(b" ", of_signed(dot.y));
 }
 
 fn print_window(window: Window) {

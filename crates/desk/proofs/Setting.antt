@@ -31,7 +31,7 @@ use Rattle.desk.specs.declared.field.Register.{Register}
 use Rattle.desk.specs.Desks.{fine, wrong, withEnv}
 use Rattle.desk.specs.Faults.{faultOf}
 use Rattle.desk.specs.Fields.{fieldOf}
-use Rattle.desk.specs.Sets.{withBound, withAxis, withCorner, withRegister, positioned, windowed, bounded, registered, withField, stored, numbered, setVariable, setReturn, setNamed, setField}
+use Rattle.desk.specs.Sets.{withBound, withAxis, withCorner, withRegister, positioned, based, windowed, bounded, registered, withField, stored, numbered, setVariable, setReturn, setNamed, setField}
 
 -- ---- a part with one number set, where the match has told which
 pub bound-is : {x : Bound} (y : Bound) (n : ℕ) (b : Bounds) → x ≡ y → withBound y n b ≡ withBound x n b
@@ -55,6 +55,12 @@ module _ (n : ℕ) (e : Env) {field : Field} where
       → registered (positioned d (e .registers)) e ≡ withField field n e
   a-coordinate {a} p h q =
       ap (λ (x : Dot). registered (positioned x (e .registers)) e) (q ∙ ap (λ (z : ℤ). withAxis a z (e .registers .position)) h)
+      ∙ ap (λ (f : Field). withField f n e) (sym p)
+
+  pub an-origin : {a : Axis} {z : ℤ} {d : Dot} → field ≡ Field.Origin a → z ≡ signed32 n → d ≡ withAxis a z (e .registers .origin)
+      → registered (based d (e .registers)) e ≡ withField field n e
+  an-origin {a} p h q =
+      ap (λ (x : Dot). registered (based x (e .registers)) e) (q ∙ ap (λ (z : ℤ). withAxis a z (e .registers .origin)) h)
       ∙ ap (λ (f : Field). withField f n e) (sym p)
 
   pub a-corner : {c : Corner} {z : ℤ} {w : Window} → field ≡ Field.Corner c → z ≡ signed32 n → w ≡ withCorner c z (e .registers .window)

@@ -63,27 +63,30 @@ withCorner Y0 z w = window w.x0 z w.x1 w.y1
 withCorner X1 z w = window w.x0 w.y0 z w.y1
 withCorner Y1 z w = window w.x0 w.y0 w.x1 z
 
-abbrev registers : Dot → Window → ℕ → ℕ → ℕ → ℕ → WordIndex → ℕ → WordIndex → ℕ → ℕ → Registers
-registers p w m o f s c d i k t =
-    record { position = p; window = w; mode = m; pattern = o; first = f; second = s; counter = c; depth = d; place = i; colour = k; state = t }
+abbrev registers : Dot → Dot → Window → ℕ → ℕ → ℕ → ℕ → WordIndex → ℕ → WordIndex → ℕ → ℕ → Registers
+registers p o w m l f s c d i k t =
+    record { position = p; origin = o; window = w; mode = m; pattern = l; first = f; second = s; counter = c; depth = d; place = i; colour = k; state = t }
 
 -- colour and state are bytes
 abbrev pub withRegister : Register → ℕ → Registers → Registers
-withRegister Mode n r = registers r.position r.window n r.pattern r.first r.second r.counter r.depth r.place r.colour r.state
-withRegister Pattern n r = registers r.position r.window r.mode n r.first r.second r.counter r.depth r.place r.colour r.state
-withRegister First n r = registers r.position r.window r.mode r.pattern n r.second r.counter r.depth r.place r.colour r.state
-withRegister Second n r = registers r.position r.window r.mode r.pattern r.first n r.counter r.depth r.place r.colour r.state
-withRegister Counter n r = registers r.position r.window r.mode r.pattern r.first r.second (record { 0 = n }) r.depth r.place r.colour r.state
-withRegister Depth n r = registers r.position r.window r.mode r.pattern r.first r.second r.counter n r.place r.colour r.state
-withRegister Place n r = registers r.position r.window r.mode r.pattern r.first r.second r.counter r.depth (record { 0 = n }) r.colour r.state
-withRegister Colour n r = registers r.position r.window r.mode r.pattern r.first r.second r.counter r.depth r.place (n % 256) r.state
-withRegister State n r = registers r.position r.window r.mode r.pattern r.first r.second r.counter r.depth r.place r.colour (n % 256)
+withRegister Mode n r = registers r.position r.origin r.window n r.pattern r.first r.second r.counter r.depth r.place r.colour r.state
+withRegister Pattern n r = registers r.position r.origin r.window r.mode n r.first r.second r.counter r.depth r.place r.colour r.state
+withRegister First n r = registers r.position r.origin r.window r.mode r.pattern n r.second r.counter r.depth r.place r.colour r.state
+withRegister Second n r = registers r.position r.origin r.window r.mode r.pattern r.first n r.counter r.depth r.place r.colour r.state
+withRegister Counter n r = registers r.position r.origin r.window r.mode r.pattern r.first r.second (record { 0 = n }) r.depth r.place r.colour r.state
+withRegister Depth n r = registers r.position r.origin r.window r.mode r.pattern r.first r.second r.counter n r.place r.colour r.state
+withRegister Place n r = registers r.position r.origin r.window r.mode r.pattern r.first r.second r.counter r.depth (record { 0 = n }) r.colour r.state
+withRegister Colour n r = registers r.position r.origin r.window r.mode r.pattern r.first r.second r.counter r.depth r.place (n % 256) r.state
+withRegister State n r = registers r.position r.origin r.window r.mode r.pattern r.first r.second r.counter r.depth r.place r.colour (n % 256)
 
 abbrev pub positioned : Dot → Registers → Registers
-positioned p r = registers p r.window r.mode r.pattern r.first r.second r.counter r.depth r.place r.colour r.state
+positioned p r = registers p r.origin r.window r.mode r.pattern r.first r.second r.counter r.depth r.place r.colour r.state
+
+abbrev pub based : Dot → Registers → Registers
+based o r = registers r.position o r.window r.mode r.pattern r.first r.second r.counter r.depth r.place r.colour r.state
 
 abbrev pub windowed : Window → Registers → Registers
-windowed w r = registers r.position w r.mode r.pattern r.first r.second r.counter r.depth r.place r.colour r.state
+windowed w r = registers r.position r.origin w r.mode r.pattern r.first r.second r.counter r.depth r.place r.colour r.state
 
 -- ---- one field of the environment
 abbrev pub bounded : Bounds → Env → Env
@@ -95,6 +98,7 @@ registered r e = record { bounds = e.bounds; registers = r; variables = e.variab
 abbrev pub withField : Field → ℕ → Env → Env
 withField (Field.Bound b) n e = bounded (withBound b n e.bounds) e
 withField (Field.Position a) n e = registered (positioned (withAxis a (signed32 n) (e .registers .position)) e.registers) e
+withField (Field.Origin a) n e = registered (based (withAxis a (signed32 n) (e .registers .origin)) e.registers) e
 withField (Field.Corner c) n e = registered (windowed (withCorner c (signed32 n) (e .registers .window)) e.registers) e
 withField (Field.Register r) n e = registered (withRegister r n e.registers) e
 

@@ -10,6 +10,7 @@ ghost use Rattle.desk.specs.Fields.{fieldOf, kindOf, kindOfRegister, rea
 pub enum Field {
     Bound(Bound),
     Position(Axis),
+    Origin(Axis),
     Corner(Corner),
     Register(Register),
 }
@@ -58,7 +59,7 @@ pub fn field_of(name: &[u8]) -> Found
     ensures { λ r. ⌜ r ≡ fieldOf (now (name .entry)) ⌝ }
 {
     let names =
-        b"width height left top right bottom x y x0 y0 x1 y1 mode pattern first second counter depth place colour state";
+        b"width height left top right bottom x y ox oy x0 y0 x1 y1 mode pattern first second counter depth place colour state";
     match place_in(names, name) {
         0 => Found::Is(Field::Bound(Bound::Width)),
         1 => Found::Is(Field::Bound(Bound::Height)),
@@ -68,19 +69,21 @@ pub fn field_of(name: &[u8]) -> Found
         5 => Found::Is(Field::Bound(Bound::Bottom)),
         6 => Found::Is(Field::Position(Axis::X)),
         7 => Found::Is(Field::Position(Axis::Y)),
-        8 => Found::Is(Field::Corner(Corner::X0)),
-        9 => Found::Is(Field::Corner(Corner::Y0)),
-        10 => Found::Is(Field::Corner(Corner::X1)),
-        11 => Found::Is(Field::Corner(Corner::Y1)),
-        12 => Found::Is(Field::Register(Register::Mode)),
-        13 => Found::Is(Field::Register(Register::Pattern)),
-        14 => Found::Is(Field::Register(Register::First)),
-        15 => Found::Is(Field::Register(Register::Second)),
-        16 => Found::Is(Field::Register(Register::Counter)),
-        17 => Found::Is(Field::Register(Register::Depth)),
-        18 => Found::Is(Field::Register(Register::Place)),
-        19 => Found::Is(Field::Register(Register::Colour)),
-        20 => Found::Is(Field::Register(Register::State)),
+        8 => Found::Is(Field::Origin(Axis::X)),
+        9 => Found::Is(Field::Origin(Axis::Y)),
+        10 => Found::Is(Field::Corner(Corner::X0)),
+        11 => Found::Is(Field::Corner(Corner::Y0)),
+        12 => Found::Is(Field::Corner(Corner::X1)),
+        13 => Found::Is(Field::Corner(Corner::Y1)),
+        14 => Found::Is(Field::Register(Register::Mode)),
+        15 => Found::Is(Field::Register(Register::Pattern)),
+        16 => Found::Is(Field::Register(Register::First)),
+        17 => Found::Is(Field::Register(Register::Second)),
+        18 => Found::Is(Field::Register(Register::Counter)),
+        19 => Found::Is(Field::Register(Register::Depth)),
+        20 => Found::Is(Field::Register(Register::Place)),
+        21 => Found::Is(Field::Register(Register::Colour)),
+        22 => Found::Is(Field::Register(Register::State)),
         _ => Found::Nothing,
     }
 }
@@ -98,6 +101,7 @@ fn kind_of(field: Field) -> Kind
     match field {
         Field::Bound(_) => Kind::Unsigned,
         Field::Position(_) => Kind::Signed,
+        Field::Origin(_) => Kind::Signed,
         Field::Corner(_) => Kind::Signed,
         Field::Register(register) => kind_of_register(register),
     }

@@ -132,6 +132,11 @@ fn with_field(env: Env, field: Field, bits: u32) -> Env
             registers.position = position;
             after.registers = registers;
         }
+        Field::Origin(axis) => {
+            let origin = with_axis(registers.origin, axis, to_signed(bits));
+            registers.origin = origin;
+            after.registers = registers;
+        }
         Field::Corner(corner) => {
             let window = with_corner(registers.window, corner, to_signed(bits));
             registers.window = window;
@@ -160,10 +165,10 @@ fn with_bound(bounds: Bounds, bound: Bound, n: u32) -> Bounds
     after
 }
 
-fn with_axis(position: Dot, axis: Axis, z: i32) -> Dot
-    ensures { λ r. ⌜ r ≡ withAxis axis z position ⌝ }
+fn with_axis(dot: Dot, axis: Axis, z: i32) -> Dot
+    ensures { λ r. ⌜ r ≡ withAxis axis z dot ⌝ }
 {
-    let mut after = position;
+    let mut after = dot;
     match axis {
         Axis::X => after.x = z,
         Axis::Y => after.y = z,
