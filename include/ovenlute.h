@@ -11,7 +11,7 @@ extern "C" {
 #endif
 
 /* Raised with every change of a struct below. An environment that was kept from another version is to be made anew. */
-#define OVENLUTE_VERSION 3
+#define OVENLUTE_VERSION 4
 
 /* The limits. */
 #define OVENLUTE_MOST_WORDS 65536     /* of a list */
@@ -64,15 +64,16 @@ struct ovenlute_dot {
     int32_t x, y;
 };
 
-/* The clip window, both corners inside; each -32,768 to 32,767. */
+/* The clip window as a list gives it, both corners inside; each -32,768 to 32,767. */
 struct ovenlute_window {
     int32_t x0, y0, x1, y1;
 };
 
 struct ovenlute_registers {
-    struct ovenlute_dot position;
+    struct ovenlute_dot position;  /* relative to the origin */
+    struct ovenlute_dot origin;    /* where a list's (0, 0) is, counted from the screen's: added to each point that is drawn */
     struct ovenlute_window window;
-    uint32_t mode;          /* clip mode 0 to 2 */
+    uint32_t mode;          /* clip mode: 0 the pane alone, 1 the window relative to the origin, 2 the window absolute */
     uint32_t pattern;       /* which dots a line of type 1 paints, bit 0 for its first point; any 32 bits */
     int32_t first, second;  /* the two values last compared */
     uint32_t counter;       /* program counter: a word index, 0 to 65,536 */
@@ -113,9 +114,9 @@ struct ovenlute_words {
 /* Any of the four may be called from several threads at once on different environments and screens: nothing is kept between
    calls but what is lent. Lists that share a screen take turns. None allocates, and none needs more than 2 KiB of stack. */
 
-/* A fresh environment for a screen of that size and a pane in it: variables 0, position (0, 0), colour 15, clip mode 0, window
-   the whole screen, pattern all ones, counter 0, running. Numbers: 0; 10 for a bad size; 12 for a bad pane, size first. With 10
-   and 12 env is all zeros, the pattern too, and a run over it answers 10. */
+/* A fresh environment for a screen of that size and a pane in it: variables 0, position (0, 0), origin (0, 0), colour 15, clip
+   mode 0, window the whole screen, pattern all ones, counter 0, running. Numbers: 0; 10 for a bad size; 12 for a bad pane, size
+   first. With 10 and 12 env is all zeros, the pattern too, and a run over it answers 10. */
 struct ovenlute_made ovenlute_fresh(uint32_t width, uint32_t height, struct ovenlute_pane pane);
 
 /* Runs a list of 16-bit words on a screen of one byte a pixel, row by row from the top left, with the environment changed in

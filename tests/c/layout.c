@@ -23,26 +23,27 @@ _Static_assert(offsetof(struct ovenlute_window, y0) == 4, "window.y0");
 _Static_assert(offsetof(struct ovenlute_window, x1) == 8, "window.x1");
 _Static_assert(offsetof(struct ovenlute_window, y1) == 12, "window.y1");
 
-_Static_assert(sizeof(struct ovenlute_registers) == 56, "registers");
+_Static_assert(sizeof(struct ovenlute_registers) == 64, "registers");
 _Static_assert(offsetof(struct ovenlute_registers, position) == 0, "registers.position");
-_Static_assert(offsetof(struct ovenlute_registers, window) == 8, "registers.window");
-_Static_assert(offsetof(struct ovenlute_registers, mode) == 24, "registers.mode");
-_Static_assert(offsetof(struct ovenlute_registers, pattern) == 28, "registers.pattern");
-_Static_assert(offsetof(struct ovenlute_registers, first) == 32, "registers.first");
-_Static_assert(offsetof(struct ovenlute_registers, second) == 36, "registers.second");
-_Static_assert(offsetof(struct ovenlute_registers, counter) == 40, "registers.counter");
-_Static_assert(offsetof(struct ovenlute_registers, depth) == 44, "registers.depth");
-_Static_assert(offsetof(struct ovenlute_registers, place) == 48, "registers.place");
-_Static_assert(offsetof(struct ovenlute_registers, colour) == 52, "registers.colour");
-_Static_assert(offsetof(struct ovenlute_registers, state) == 53, "registers.state");
+_Static_assert(offsetof(struct ovenlute_registers, origin) == 8, "registers.origin");
+_Static_assert(offsetof(struct ovenlute_registers, window) == 16, "registers.window");
+_Static_assert(offsetof(struct ovenlute_registers, mode) == 32, "registers.mode");
+_Static_assert(offsetof(struct ovenlute_registers, pattern) == 36, "registers.pattern");
+_Static_assert(offsetof(struct ovenlute_registers, first) == 40, "registers.first");
+_Static_assert(offsetof(struct ovenlute_registers, second) == 44, "registers.second");
+_Static_assert(offsetof(struct ovenlute_registers, counter) == 48, "registers.counter");
+_Static_assert(offsetof(struct ovenlute_registers, depth) == 52, "registers.depth");
+_Static_assert(offsetof(struct ovenlute_registers, place) == 56, "registers.place");
+_Static_assert(offsetof(struct ovenlute_registers, colour) == 60, "registers.colour");
+_Static_assert(offsetof(struct ovenlute_registers, state) == 61, "registers.state");
 
-_Static_assert(sizeof(struct ovenlute_env) == 400, "env");
+_Static_assert(sizeof(struct ovenlute_env) == 408, "env");
 _Static_assert(offsetof(struct ovenlute_env, bounds) == 0, "env.bounds");
 _Static_assert(offsetof(struct ovenlute_env, registers) == 24, "env.registers");
-_Static_assert(offsetof(struct ovenlute_env, variables) == 80, "env.variables");
-_Static_assert(offsetof(struct ovenlute_env, stack) == 336, "env.stack");
+_Static_assert(offsetof(struct ovenlute_env, variables) == 88, "env.variables");
+_Static_assert(offsetof(struct ovenlute_env, stack) == 344, "env.stack");
 
-_Static_assert(sizeof(struct ovenlute_made) == 404, "made");
+_Static_assert(sizeof(struct ovenlute_made) == 412, "made");
 _Static_assert(offsetof(struct ovenlute_made, number) == 0, "made.number");
 _Static_assert(offsetof(struct ovenlute_made, env) == 4, "made.env");
 
@@ -59,4 +60,4 @@ _Static_assert(sizeof(struct ovenlute_words) == 96, "words");
 _Static_assert(offsetof(struct ovenlute_words, length) == 0, "words.length");
 _Static_assert(offsetof(struct ovenlute_words, text) == 1, "words.text");
 
-_Static_assert(OVENLUTE_VERSION == 3, "the version that these sizes and offsets are of");
+_Static_assert(OVENLUTE_VERSION == 4, "the version that these sizes and offsets are of");
