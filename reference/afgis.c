@@ -1,7 +1,7 @@
 /*
  * AFGIS display lists by documents 01 and 02, in plain C. The sections follow 01's, with one for 02's circles, one for its
- * line pattern and one for its lit dots; a sentence in quotation marks is one of these papers' own. The condition numbers and
- * RTRN's number come from document 004.
+ * line pattern, one for its origin and one for its lit dots; a sentence in quotation marks is one of these papers' own. The
+ * condition numbers and the numbers of RTRN, XYORG and XYORGV come from document 004.
  */
 
 #include "afgis.h"
@@ -94,10 +94,12 @@ static int place_is_good(const struct afgis_env *env)
     return is_stopped(env->state) ? env->place <= MOST_WORDS : env->place == 0;
 }
 
+/* "The ranges checked under 12 grow" with the origin. */
 static int fields_are_good(const struct afgis_env *env)
 {
     return pane_is_good(env)
         && fits_word(env->x) && fits_word(env->y)
+        && fits_word(env->origin_x) && fits_word(env->origin_y)
         && env->mode <= 2
         && fits_word(env->x0) && fits_word(env->y0) && fits_word(env->x1) && fits_word(env->y1)
         && env->counter <= MOST_WORDS
@@ -133,21 +135,43 @@ int afgis_fresh(uint32_t width, uint32_t height, uint32_t left, uint32_t top, ui
 
 /* ---- Which dots are painted ---- */
 
-/* "Inside the screen, inside the pane, and, in modes 1 and 2, inside the clip window." */
-static int is_drawable(const struct afgis_env *env, int32_t x, int32_t y)
+static int is_in_window(const struct afgis_env *env, int32_t x, int32_t y)
 {
-    if (!is_between(x, 0, (int64_t)env->width - 1) || !is_between(y, 0, (int64_t)env->height - 1))
-        return 0;
-    if (!is_between(x, env->left, env->right) || !is_between(y, env->top, env->bottom))
-        return 0;
-    return env->mode == 0 || (is_between(x, env->x0, env->x1) && is_between(y, env->y0, env->y1));
+    return is_between(x, env->x0, env->x1) && is_between(y, env->y0, env->y1);
 }
 
-/* "Points elsewhere are skipped; that is no refusal." */
-static void paint(struct machine *m, int32_t x, int32_t y, uint8_t colour)
+/* "Clip mode 1 is now relative to the origin and mode 2 absolute." */
+static int is_unclipped(const struct afgis_env *env, int32_t x, int32_t y)
+{
+    switch (env->mode) {
+    case 1:
+        return is_in_window(env, x - env->origin_x, y - env->origin_y);
+    case 2:
+        return is_in_window(env, x, y);
+    default:
+        return 1;
+    }
+}
+
+/* "Inside the screen, inside the pane, and, in modes 1 and 2, inside the clip window." "The pane stays absolute." */
+static int is_drawable(const struct afgis_env *env, int32_t x, int32_t y)
+{
+    return is_between(x, 0, (int64_t)env->width - 1) && is_between(y, 0, (int64_t)env->height - 1)
+        && is_between(x, env->left, env->right) && is_between(y, env->top, env->bottom)
+        && is_unclipped(env, x, y);
+}
+
+/* A pixel, counted from the screen's own (0, 0). "Points elsewhere are skipped; that is no refusal." */
+static void paint_pixel(struct machine *m, int32_t x, int32_t y, uint8_t colour)
 {
     if (is_drawable(m->env, x, y))
         m->screen[(size_t)y * m->env->width + (size_t)x] = colour;
+}
+
+/* "Drawing coordinates are relative to the origin; the sum may leave the signed word and is then merely not drawable." */
+static void paint(struct machine *m, int32_t x, int32_t y, uint8_t colour)
+{
+    paint_pixel(m, m->env->origin_x + x, m->env->origin_y + y, colour);
 }
 
 static int64_t distance(int32_t a, int32_t b)
@@ -226,13 +250,16 @@ static int is_on_outline(const struct circle *circle, int32_t x, int32_t y)
             || !is_in_circle(circle, x, y - 1) || !is_in_circle(circle, x, y + 1));
 }
 
-/* Every dot of the screen is asked. */
+/* Every dot of the screen is asked: the drawing coordinates that the origin brings there. */
 static void paint_circle(struct machine *m, const struct circle *circle, shape *belongs)
 {
-    for (int32_t y = 0; y < (int32_t)m->env->height; y++)
-        for (int32_t x = 0; x < (int32_t)m->env->width; x++)
+    for (int32_t row = 0; row < (int32_t)m->env->height; row++)
+        for (int32_t column = 0; column < (int32_t)m->env->width; column++) {
+            int32_t x = column - m->env->origin_x;
+            int32_t y = row - m->env->origin_y;
             if (belongs(circle, x, y))
                 paint(m, x, y, m->env->colour);
+        }
 }
 
 /* ---- Opcodes of the base: words, longs, variables ---- */
@@ -607,6 +634,7 @@ static int foreground_v(struct machine *m)
 
 /* ---- Opcodes of the base: position ---- */
 
+/* "Positions stay logical": no origin is added, and none is looked at. */
 static int set_position(struct machine *m, uint32_t length, int32_t x, int32_t y)
 {
     if (!fits_word(x) || !fits_word(y))
@@ -775,7 +803,7 @@ static int clear(struct machine *m, uint32_t length, uint32_t colour)
 {
     for (uint32_t y = 0; y < m->env->height; y++)
         for (uint32_t x = 0; x < m->env->width; x++)
-            paint(m, (int32_t)x, (int32_t)y, (uint8_t)(colour % 256));
+            paint_pixel(m, (int32_t)x, (int32_t)y, (uint8_t)(colour % 256));
     return done(m, length);
 }
 
@@ -843,6 +871,31 @@ static int line_pattern_v(struct machine *m)
     return refusal != DONE ? refusal : set_pattern(m, 2, (uint32_t)pattern);
 }
 
+/* ---- Opcodes of 02's T-06: the logical origin ---- */
+
+/* It is set and not added to the one before. "25 beyond a signed word." */
+static int set_origin(struct machine *m, uint32_t length, int32_t x, int32_t y)
+{
+    if (!fits_word(x) || !fits_word(y))
+        return OUT_OF_RANGE;
+    m->env->origin_x = x;
+    m->env->origin_y = y;
+    return done(m, length);
+}
+
+static int origin(struct machine *m)
+{
+    return is_cut(m, 3) ? CUT : set_origin(m, 3, signed_word_at(m, 1), signed_word_at(m, 2));
+}
+
+static int origin_v(struct machine *m)
+{
+    int32_t v[2];
+    int refusal = read_variables(m, 2, v);
+
+    return refusal != DONE ? refusal : set_origin(m, 2, v[0], v[1]);
+}
+
 /* ---- Opcodes of the base: "one decision over the opcode word" ---- */
 
 static int carry_out(struct machine *m)
@@ -895,6 +948,8 @@ static int carry_out(struct machine *m)
     case 0x009E: return pixel(m);                    /* PIXEL x y */
     case 0x009F: return pixel_v(m);                  /* PIXELV Vi */
     case 0x00B9: return return_from_call(m);         /* RTRN */
+    case 0x0100: return origin(m);                   /* XYORG x y */
+    case 0x0101: return origin_v(m);                 /* XYORGV Vi */
     case 0x010A: return jump_absolute(m);            /* JUMPA condition long */
     case 0x010C: return jump_relative(m);            /* JUMPR condition word */
     case 0x010E: return call_relative(m);            /* CALR word */

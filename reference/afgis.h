@@ -10,7 +10,8 @@ struct afgis_env {
     uint32_t width, height;             /* the screen's size, each 1 to 2,048 */
     uint32_t left, top, right, bottom;  /* the pane, both ends inside */
     int32_t variables[64];
-    int32_t x, y;                       /* the position, each -32,768 to 32,767 */
+    int32_t x, y;                       /* the position, each -32,768 to 32,767; 02's T-06: "positions stay logical" */
+    int32_t origin_x, origin_y;         /* 02's T-06: "an origin of two signed words, (0, 0) when fresh" */
     uint8_t colour;                     /* the foreground colour */
     uint32_t mode;                      /* the clip mode, 0 to 2 */
     uint32_t pattern;                   /* 02's T-03: the line pattern, bit 0 lowest */
