@@ -75,6 +75,7 @@ static int set_field(char *line)
     const struct field fields[] = {
         { "width", &env.width }, { "height", &env.height }, { "left", &env.left }, { "top", &env.top },
         { "right", &env.right }, { "bottom", &env.bottom }, { "x", &env.x }, { "y", &env.y },
+        { "ox", &env.origin_x }, { "oy", &env.origin_y },
         { "x0", &env.x0 }, { "y0", &env.y0 }, { "x1", &env.x1 }, { "y1", &env.y1 }, { "mode", &env.mode },
         { "pattern", &env.pattern }, { "first", &env.first }, { "second", &env.second }, { "counter", &env.counter },
         { "depth", &env.depth }, { "place", &env.place },
@@ -163,8 +164,8 @@ static void run(void)
 
     printf("answer %d place %u steps %u\n", answer.number, answer.place, answer.steps);
     printf("size %u %u pane %u %u %u %u\n", env.width, env.height, env.left, env.top, env.right, env.bottom);
-    printf("position %d %d colour %d pattern %u mode %u window %d %d %d %d\n", env.x, env.y, env.colour, env.pattern, env.mode,
-           env.x0, env.y0, env.x1, env.y1);
+    printf("position %d %d origin %d %d colour %d pattern %u mode %u window %d %d %d %d\n", env.x, env.y, env.origin_x,
+           env.origin_y, env.colour, env.pattern, env.mode, env.x0, env.y0, env.x1, env.y1);
     printf("compared %d %d\n", env.first, env.second);
     printf("state %d place %u counter %u depth %u returns", env.state, env.place, env.counter, env.depth);
     for (uint32_t i = 0; i < env.depth && i < 16; i++)
