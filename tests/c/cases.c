@@ -1,7 +1,7 @@
 /*
- * The fourteen cases of docs/RULES.md with their variants, requests T-01's to T-04's, a line that is mostly outside, places of
- * refusals, the numbers 10 to 14, and what the header says of NULL and of its limits, through the C face of the box. Each answer
- * is checked whole: number, place, steps, every field of the environment, every byte.
+ * The fourteen cases of docs/RULES.md with their variants, requests T-01's to T-04's and T-06's, a line that is mostly outside,
+ * places of refusals, the numbers 10 to 14, and what the header says of NULL and of its limits, through the C face of the box.
+ * Each answer is checked whole: number, place, steps, every field of the environment, every byte.
  */
 
 #include "libc.h"
@@ -11,7 +11,8 @@ enum { WIDTH = 5, HEIGHT = 3, BYTES = WIDTH * HEIGHT, MOST_WORDS = 24, MOST_CHAN
 
 /* The fields that a case leaves other than fresh. */
 enum change {
-    NOTHING, VARIABLE, POSITION_X, POSITION_Y, COUNTER, DEPTH, STACKED, PLACE, MODE, PATTERN, COLOUR, FIRST, SECOND, STATE
+    NOTHING, VARIABLE, POSITION_X, POSITION_Y, ORIGIN_X, ORIGIN_Y, COUNTER, DEPTH, STACKED, PLACE, MODE, PATTERN, COLOUR, FIRST,
+    SECOND, STATE
 };
 
 struct changed {
@@ -93,6 +94,27 @@ static const struct test tests[] = {
     { "T-03, type 2", 6, { 0x0074, 0x0002, 0x0000, 0x0000, 0x0004, 0x0002 }, 100, WHOLE, 24, 0, { { STATE, 0, 24 } }, BLANK },
     { "T-03, LINEPATNV of V64", 3, { 0x0000, 0x0079, 0x0040 }, 100, WHOLE, 23, 1,
       { { COUNTER, 0, 1 }, { PLACE, 0, 2 }, { STATE, 0, 23 } }, BLANK },
+    { "T-06, a line from an origin", 10,
+      { 0x0100, 0x0001, 0xFFFF, 0x0074, 0x0000, 0x0000, 0x0000, 0x0004, 0x0002, 0x0001 }, 100, WHOLE, 0, 3,
+      { { ORIGIN_X, 0, 1 }, { ORIGIN_Y, 0, -1 }, { COUNTER, 0, 10 }, { STATE, 0, 1 } }, "..##." "....#" "....." },
+    { "T-06, the position stays logical", 8, { 0x0100, 0x0002, 0x0001, 0x007C, 0x0000, 0x0002, 0x0000, 0x0001 }, 100, WHOLE, 0, 3,
+      { { POSITION_X, 0, 2 }, { ORIGIN_X, 0, 2 }, { ORIGIN_Y, 0, 1 }, { COUNTER, 0, 8 }, { STATE, 0, 1 } },
+      "....." "..###" "....." },
+    { "T-06, a window of mode 1 is moved", 10,
+      { 0x0016, 0x0001, 0x0100, 0x0003, 0xFFFF, 0x0188, 0x0007, 0x0000, 0x0000, 0x0001 }, 100, WHOLE, 0, 4,
+      { { MODE, 0, 1 }, { ORIGIN_X, 0, 3 }, { ORIGIN_Y, 0, -1 }, { COUNTER, 0, 10 }, { STATE, 0, 1 } }, "...77" "...77" "....." },
+    { "T-06, a window of mode 2 is not", 10,
+      { 0x0016, 0x0002, 0x0100, 0x0003, 0xFFFF, 0x0188, 0x0007, 0x0000, 0x0000, 0x0001 }, 100, WHOLE, 0, 4,
+      { { MODE, 0, 2 }, { ORIGIN_X, 0, 3 }, { ORIGIN_Y, 0, -1 }, { COUNTER, 0, 10 }, { STATE, 0, 1 } }, "77777" "77777" "77777" },
+    { "T-06, the pane stays", 10,
+      { 0x0100, 0x0001, 0x0000, 0x0074, 0x0000, 0x0000, 0x0000, 0x0004, 0x0002, 0x0001 }, 100, { 2, 0, 4, 2 }, 0, 3,
+      { { ORIGIN_X, 0, 1 }, { COUNTER, 0, 10 }, { STATE, 0, 1 } }, "....." "..##." "....#" },
+    { "T-06, sums of -65,536", 7, { 0x0100, 0x8000, 0x8000, 0x009E, 0x8000, 0x8000, 0x0001 }, 100, WHOLE, 0, 3,
+      { { ORIGIN_X, 0, -32768 }, { ORIGIN_Y, 0, -32768 }, { COUNTER, 0, 7 }, { STATE, 0, 1 } }, BLANK },
+    { "T-06, XYORGV of x = 65,536", 6, { 0x0066, 0x0000, 0x0001, 0x0000, 0x0101, 0x0000 }, 100, WHOLE, 25, 1,
+      { { VARIABLE, 0, 65536 }, { COUNTER, 0, 4 }, { PLACE, 0, 4 }, { STATE, 0, 25 } }, BLANK },
+    { "T-06, XYORGV of V63", 3, { 0x0000, 0x0101, 0x003F }, 100, WHOLE, 23, 1,
+      { { COUNTER, 0, 1 }, { PLACE, 0, 2 }, { STATE, 0, 23 } }, BLANK },
     { "all coordinates through two columns", 7, { 0x0074, 0x0000, 0x7FFF, 0x8003, 0x8003, 0x7FFF, 0x0001 }, 100,
       { 1, 0, 2, 2 }, 0, 2, { { COUNTER, 0, 7 }, { STATE, 0, 1 } }, "..#.." ".#..." "....." },
     { "9 as LINETO", 5, { 0x007C, 0x0000, 0x0004, 0x0002, 0x0001 }, 100, WHOLE, 0, 2,
@@ -137,7 +159,7 @@ static void check(const char *name, const char *wrong)
 
 /* ---- environments ---- */
 
-/* Document 01's fresh environment, with T-03's pattern. */
+/* Document 01's fresh environment, with T-03's pattern; T-06's origin is zeros, as most of it is. */
 static void fresh_env(struct ovenlute_env *env, struct ovenlute_pane pane)
 {
     memset(env, 0, sizeof *env);
@@ -166,6 +188,12 @@ static void change_register(struct ovenlute_registers *registers, enum change wh
         break;
     case POSITION_Y:
         registers->position.y = value;
+        break;
+    case ORIGIN_X:
+        registers->origin.x = value;
+        break;
+    case ORIGIN_Y:
+        registers->origin.y = value;
         break;
     case COUNTER:
         registers->counter = (uint32_t)value;
@@ -219,6 +247,7 @@ static int same_bounds(const struct ovenlute_bounds *a, const struct ovenlute_bo
 static int same_registers(const struct ovenlute_registers *a, const struct ovenlute_registers *b)
 {
     return a->position.x == b->position.x && a->position.y == b->position.y
+        && a->origin.x == b->origin.x && a->origin.y == b->origin.y
         && a->window.x0 == b->window.x0 && a->window.y0 == b->window.y0
         && a->window.x1 == b->window.x1 && a->window.y1 == b->window.y1
         && a->mode == b->mode && a->pattern == b->pattern && a->first == b->first && a->second == b->second
@@ -389,6 +418,20 @@ static void check_patterns(void)
     }
 }
 
+/* An origin is two signed words. */
+static void check_origins(void)
+{
+    struct ovenlute_env env;
+
+    fresh_env(&env, whole_pane);
+    env.registers.origin = (struct ovenlute_dot){ 32767, -32768 };
+    check_door("an origin at the ends of the word", &env, 1, BYTES, 0, OVENLUTE_BUDGET);
+    env.registers.origin = (struct ovenlute_dot){ 32768, 0 };
+    check_door("12, an origin's x above the word", &env, 1, BYTES, 1, OVENLUTE_BAD_FIELD);
+    env.registers.origin = (struct ovenlute_dot){ 0, -32769 };
+    check_door("12, an origin's y below the word", &env, 1, BYTES, 1, OVENLUTE_BAD_FIELD);
+}
+
 static void check_lit(const char *name, uint32_t length, uint32_t pattern, uint8_t number, uint32_t count)
 {
     struct ovenlute_lit_dots lit = ovenlute_lit(length, pattern);
@@ -444,6 +487,7 @@ int main(void)
     check_fresh_calls();
     check_door_calls();
     check_patterns();
+    check_origins();
     check_lit_calls();
     check_null();
     check_limits();
