@@ -11,4 +11,14 @@ struct area {
 
 struct area area_of(const struct afgis_env *env);
 
+/* Where on the screen the clip window is, or beside it: in mode 1 the origin moves it. */
+struct area window_of(const struct afgis_env *env);
+
+int64_t larger(int64_t a, int64_t b);
+
+int is_empty(struct area area);
+
+/* What is inside both. */
+struct area common(struct area a, struct area b);
+
 #endif

@@ -1,15 +1,10 @@
 #include "circles.h"
-#include "area.h"
 #include "count.h"
 
 enum { FAR = 2048, LARGEST_RADIUS = 32767 };
 
-struct circle {
-    int64_t type, x, y, radius;
-};
-
 /* CIR and CIRS name it in words, CIRV and CIRSV in variables. */
-static int circle_of(const uint16_t *opcode, const struct afgis_env *before, struct circle *circle)
+int circle_of(const uint16_t *opcode, const struct afgis_env *before, struct circle *circle)
 {
     const int32_t *v;
 
@@ -26,12 +21,12 @@ static int circle_of(const uint16_t *opcode, const struct afgis_env *before, str
     }
 }
 
-/* ---- refused ---- */
-
-static int is_word(int64_t value)
+struct circle moved_circle(struct circle circle, const struct afgis_env *env)
 {
-    return -32768 <= value && value <= 32767;
+    return (struct circle){ circle.type, circle.x + env->origin_x, circle.y + env->origin_y, circle.radius };
 }
+
+/* ---- refused ---- */
 
 static int is_radius(int64_t value)
 {
@@ -68,23 +63,13 @@ static int64_t outside(int64_t value, int64_t low, int64_t high)
     return value < low ? low - value : value > high ? value - high : 0;
 }
 
-static int64_t larger(int64_t a, int64_t b)
-{
-    return a > b ? a : b;
-}
-
 static int reaches(const struct circle *circle, int64_t across, int64_t down)
 {
     return across * across + down * down <= circle->radius * circle->radius;
 }
 
-static int is_empty(struct area area)
-{
-    return area.left > area.right || area.top > area.bottom;
-}
-
 /* The dot of the area that is nearest to the centre is in the circle. */
-static int meets(const struct circle *circle, struct area area)
+int meets(const struct circle *circle, struct area area)
 {
     return !is_empty(area)
         && reaches(circle, outside(circle->x, area.left, area.right), outside(circle->y, area.top, area.bottom));
@@ -154,6 +139,7 @@ void count_circle(const uint16_t *opcode, const struct afgis_env *before, struct
     if ((answer.steps == 0 && answer.number != 24 && answer.number != 25) || !circle_of(opcode, before, &circle))
         return;
     if (answer.steps == 1) {
+        circle = moved_circle(circle, before);
         count_radius(group, circle.radius);
         count_part(group, &circle, before);
     } else if (answer.number == 24) {

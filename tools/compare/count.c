@@ -7,7 +7,7 @@
 #include "lines.h"
 #include "places.h"
 
-enum { MOST_MEMBERS = 20, STEPS_FOLLOWED = 200 };
+enum { MOST_MEMBERS = 24, STEPS_FOLLOWED = 200 };
 
 #define PATTERNS "00000000", "FFFFFFFF", "00000001", "80000000", "other"
 
@@ -20,12 +20,12 @@ static const struct {
 } groups[GROUPS] = {
     [CALLS] = { "calls", { "whole", "slice", "larger budget", "two panes mixed", "one pane alone" } },
     [LISTS] = { "lists", { "empty", "each opcode word", "random words", "valid opcodes", "one word damaged", "loops",
-                           "endless loops", "calls near the limits", "patterns and lines", "longest", "too long",
-                           "2^32 words too long", "two refusals at once", "a variable above 63" } },
+                           "endless loops", "calls near the limits", "patterns and lines", "origins and shapes",
+                           "longest", "too long", "2^32 words too long", "two refusals at once", "a variable above 63" } },
     [ENVIRONMENTS] = { "environments", { "fresh", "mid-run", "continued", "stopped", "ended", "broken" } },
-    [BROKEN_FIELDS] = { "broken fields", { "width", "height", "left", "top", "right", "bottom", "x", "y", "x0", "y0",
-                                           "x1", "y1", "mode", "counter", "depth", "stack", "state", "place where stopped",
-                                           "place where not" } },
+    [BROKEN_FIELDS] = { "broken fields", { "width", "height", "left", "top", "right", "bottom", "x", "y", "ox", "oy",
+                                           "x0", "y0", "x1", "y1", "mode", "counter", "depth", "stack", "state",
+                                           "place where stopped", "place where not" } },
     [SIZES] = { "screen sizes", { "one dot", "small", "middle", "a side of 2048", "2048 x 2048" } },
     [PANES] = { "panes", { "whole screen", "part", "one row or column", "one dot" } },
     [WINDOWS] = { "windows", { "whole screen", "part", "one dot", "empty", "outside", "widest", "any words" } },

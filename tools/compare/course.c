@@ -1,7 +1,7 @@
 #include "course.h"
 
 /* LINE and LINEV name both ends; the other four go from the position to where they leave it. */
-int ends_of(const uint16_t *opcode, const struct afgis_env *before, const struct afgis_env *after, struct ends *ends)
+static int given_ends(const uint16_t *opcode, const struct afgis_env *before, const struct afgis_env *after, struct ends *ends)
 {
     const int32_t *v;
 
@@ -19,6 +19,19 @@ int ends_of(const uint16_t *opcode, const struct afgis_env *before, const struct
     default:
         return 0;
     }
+}
+
+struct ends moved_ends(struct ends ends, const struct afgis_env *env)
+{
+    return (struct ends){ ends.x0 + env->origin_x, ends.y0 + env->origin_y, ends.x1 + env->origin_x, ends.y1 + env->origin_y };
+}
+
+int ends_of(const uint16_t *opcode, const struct afgis_env *before, const struct afgis_env *after, struct ends *ends)
+{
+    if (!given_ends(opcode, before, after, ends))
+        return 0;
+    *ends = moved_ends(*ends, before);
+    return 1;
 }
 
 static int64_t size(int64_t difference)

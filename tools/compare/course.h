@@ -4,10 +4,12 @@
 
 #include "area.h"
 
-/* The first point given and the second. */
+/* The first point given and the second, as the origin has moved them where a line was drawn. */
 struct ends {
     int32_t x0, y0, x1, y1;
 };
+
+struct ends moved_ends(struct ends ends, const struct afgis_env *env);
 
 /* The ends of the line that an opcode drew, if it drew one: the environment before it was carried out, and after. */
 int ends_of(const uint16_t *opcode, const struct afgis_env *before, const struct afgis_env *after, struct ends *ends);

@@ -3,10 +3,10 @@
 #include "course.h"
 #include "forms.h"
 
-enum { DASHED = 1, BITS = 32 };
+enum { BITS = 32 };
 
-/* A line's type: a word, or Vi's value. */
-static int type_of(const uint16_t *opcode, const struct afgis_env *before, int32_t *type)
+/* A word, or Vi's value. */
+int line_type(const uint16_t *opcode, const struct afgis_env *before, int32_t *type)
 {
     int form = form_of(opcode[0]);
 
@@ -124,7 +124,7 @@ void count_dash(const uint16_t *opcode, const struct afgis_env *before, const st
 {
     int32_t type;
 
-    if ((answer.steps == 0 && answer.number != 24 && answer.number != 25) || !type_of(opcode, before, &type))
+    if ((answer.steps == 0 && answer.number != 24 && answer.number != 25) || !line_type(opcode, before, &type))
         return;
     if (answer.number == 24)
         count_wrong_type(type);

@@ -4,6 +4,11 @@
 
 #include "afgis.h"
 
+enum { DASHED = 1 };
+
+/* The type of an opcode's line, if it has one: the environment before it. */
+int line_type(const uint16_t *opcode, const struct afgis_env *before, int32_t *type);
+
 /* Which kind of pattern it is. */
 int pattern_kind(uint32_t pattern);
 

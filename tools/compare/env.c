@@ -16,6 +16,8 @@ static const struct {
     [BOTTOM] = { "bottom", offsetof(struct ovenlute_env, bounds.pane.bottom), UNSIGNED_32 },
     [POSITION_X] = { "x", offsetof(struct ovenlute_env, registers.position.x), SIGNED_32 },
     [POSITION_Y] = { "y", offsetof(struct ovenlute_env, registers.position.y), SIGNED_32 },
+    [ORIGIN_X] = { "ox", offsetof(struct ovenlute_env, registers.origin.x), SIGNED_32 },
+    [ORIGIN_Y] = { "oy", offsetof(struct ovenlute_env, registers.origin.y), SIGNED_32 },
     [WINDOW_X0] = { "x0", offsetof(struct ovenlute_env, registers.window.x0), SIGNED_32 },
     [WINDOW_Y0] = { "y0", offsetof(struct ovenlute_env, registers.window.y0), SIGNED_32 },
     [WINDOW_X1] = { "x1", offsetof(struct ovenlute_env, registers.window.x1), SIGNED_32 },
@@ -66,6 +68,11 @@ void set_field(struct ovenlute_env *env, enum field field, int64_t value)
     }
 }
 
+int is_word(int64_t value)
+{
+    return -32768 <= value && value <= 32767;
+}
+
 uint32_t stacked(const struct ovenlute_env *env)
 {
     return env->registers.depth <= RETURNS ? env->registers.depth : RETURNS;
@@ -104,6 +111,8 @@ void to_reference(const struct ovenlute_env *from, struct afgis_env *to)
     to->bottom = from->bounds.pane.bottom;
     to->x = registers->position.x;
     to->y = registers->position.y;
+    to->origin_x = registers->origin.x;
+    to->origin_y = registers->origin.y;
     to->colour = registers->colour;
     to->mode = registers->mode;
     to->pattern = registers->pattern;
@@ -133,6 +142,8 @@ void from_reference(const struct afgis_env *from, struct ovenlute_env *to)
     to->bounds.pane.bottom = from->bottom;
     registers->position.x = from->x;
     registers->position.y = from->y;
+    registers->origin.x = from->origin_x;
+    registers->origin.y = from->origin_y;
     registers->colour = from->colour;
     registers->mode = from->mode;
     registers->pattern = from->pattern;

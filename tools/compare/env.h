@@ -8,7 +8,7 @@
 /* Every field but the variables and the stack. */
 enum field {
     WIDTH, HEIGHT, LEFT, TOP, RIGHT, BOTTOM,
-    POSITION_X, POSITION_Y, WINDOW_X0, WINDOW_Y0, WINDOW_X1, WINDOW_Y1,
+    POSITION_X, POSITION_Y, ORIGIN_X, ORIGIN_Y, WINDOW_X0, WINDOW_Y0, WINDOW_X1, WINDOW_Y1,
     MODE, PATTERN, FIRST, SECOND, COUNTER, DEPTH, PLACE, COLOUR, STATE,
     FIELDS
 };
@@ -18,6 +18,8 @@ enum { VARIABLES = 64, RETURNS = 16, RUNNING = 0, HAS_ENDED = 1 };
 const char *field_name(enum field field);
 int64_t get_field(const struct ovenlute_env *env, enum field field);
 void set_field(struct ovenlute_env *env, enum field field, int64_t value);
+
+int is_word(int64_t value);
 
 /* How many stacked indices count: none past the depth. */
 uint32_t stacked(const struct ovenlute_env *env);

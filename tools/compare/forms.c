@@ -52,6 +52,8 @@ const struct form forms[FORMS] = {
     { 0x0013, "CIRV", "i", "uhkq", "2345" },
     { 0x0014, "CIRS", "uhkq", "", "245" },
     { 0x0015, "CIRSV", "i", "uhkq", "2345" },
+    { 0x0100, "XYORG", "bn", "", "2" },
+    { 0x0101, "XYORGV", "i", "bn", "235" },
     { 0x0188, "CLRWIN", "ow", "", "2" },
     { 0x0189, "CLRWINV", "i", "ow", "23" },
 };

@@ -41,11 +41,19 @@ int32_t edge_value(void);
 /* A coordinate for a screen side of this length: mostly on the screen or close by. */
 int32_t make_coordinate(uint32_t side, int is_far);
 
-/* A circle for a screen and a pane: often one whose edge is in the pane or close by. */
-struct circle make_circle(const struct ovenlute_bounds *bounds);
+/* An origin: often one about the screen, at times at either end of the word, or any. */
+struct ovenlute_dot make_origin(const struct ovenlute_bounds *bounds);
 
-/* A line for a screen and a pane: often one of a length that the pattern's 32 bits make special, whose dots cross the pane. */
-struct ends make_line(const struct ovenlute_bounds *bounds, int is_far);
+/* A coordinate that an origin brings to this place, or at times, from an end of the word, the farthest from it; the place itself
+   where no word leads there. */
+int32_t before_origin(int32_t place, int32_t origin);
+
+/* A circle for a screen, a pane and an origin: often one whose edge is in the pane or close by. */
+struct circle make_circle(const struct ovenlute_bounds *bounds, struct ovenlute_dot origin);
+
+/* A line for a screen, a pane and an origin: often one of a length that the pattern's 32 bits make special, whose dots cross the
+   pane. */
+struct ends make_line(const struct ovenlute_bounds *bounds, struct ovenlute_dot origin, int is_far);
 
 /* A line pattern: any, or one with a bit or none, all bits or every other one. */
 uint32_t make_pattern(void);

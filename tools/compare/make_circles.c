@@ -40,24 +40,26 @@ static int32_t root_of(int32_t value)
     return root;
 }
 
-/* From a point of the pane as far as this, to the side that leads to a signed word. */
-static int32_t go_from(int32_t point, int32_t distance)
+/* From a point of the pane as far as this, to a side where a word leads from the origin; where none does, the point itself. */
+static int32_t go_from(int32_t point, int32_t distance, int32_t origin)
 {
-    return one_in(2) && point + distance <= 32767 ? point + distance : point - distance;
+    int32_t ahead = point + distance - origin, back = point - distance - origin;
+
+    if (is_word(ahead) && (one_in(2) || !is_word(back)))
+        return ahead;
+    return is_word(back) ? back : point;
 }
 
-/* A point of the pane, or one beside it, is on the edge, or nearly. */
-static struct circle make_edge(const struct ovenlute_pane *pane, int32_t radius)
+/* A point of the pane, or one beside it, is on the edge, or nearly, this far from the centre on one axis. */
+static struct circle make_edge(const struct ovenlute_pane *pane, struct ovenlute_dot origin, int32_t radius, int32_t across)
 {
     int32_t x = between((int32_t)pane->left - 1, (int32_t)pane->right + 1);
     int32_t y = between((int32_t)pane->top - 1, (int32_t)pane->bottom + 1);
-    int32_t across = one_in(8) ? 0 : between(0, radius);
     int32_t down = root_of(radius * radius - across * across);
-    struct circle circle = { go_from(x, across), go_from(y, down), radius };
 
     if (one_in(2))
-        circle = (struct circle){ go_from(x, down), go_from(y, across), radius };
-    return circle;
+        return (struct circle){ go_from(x, across, origin.x), go_from(y, down, origin.y), radius };
+    return (struct circle){ go_from(x, down, origin.x), go_from(y, across, origin.y), radius };
 }
 
 /* At an end of the signed words, or one before it. */
@@ -66,13 +68,16 @@ static int32_t make_end(void)
     return one_in(2) ? 32767 - between(0, 1) : -32768 + between(0, 1);
 }
 
-struct circle make_circle(const struct ovenlute_bounds *bounds)
+struct circle make_circle(const struct ovenlute_bounds *bounds, struct ovenlute_dot origin)
 {
     int32_t radius = make_radius(bounds);
-    struct circle circle = { make_coordinate(bounds->width, 1), make_coordinate(bounds->height, 1), radius };
+    struct circle circle = { before_origin(make_coordinate(bounds->width, 1), origin.x),
+                             before_origin(make_coordinate(bounds->height, 1), origin.y), radius };
 
+    if (one_in(16))
+        return make_edge(&bounds->pane, origin, LARGEST_RADIUS, 0);
     if (one_in(2))
-        circle = make_edge(&bounds->pane, radius);
+        circle = make_edge(&bounds->pane, origin, radius, one_in(8) ? 0 : between(0, radius));
     else if (one_in(8))
         circle = (struct circle){ make_end(), make_end(), radius };
     if (one_in(12))

@@ -180,18 +180,38 @@ static uint32_t make_place(void)
     return one_in(4) ? MOST_WORDS - below(2) : below(one_in(2) ? 2 : MOST_WORDS + 1);
 }
 
+/* The window that an origin brings to where this one is. */
+static struct ovenlute_window window_before(struct ovenlute_window window, struct ovenlute_dot origin)
+{
+    return (struct ovenlute_window){ before_origin(window.x0, origin.x), before_origin(window.y0, origin.y),
+                                     before_origin(window.x1, origin.x), before_origin(window.y1, origin.y) };
+}
+
+/* Origin, position, mode and window: those that an origin moves are mostly made for it. */
+static void make_places(struct call *call, int is_far)
+{
+    const struct ovenlute_bounds *bounds = &call->env.bounds;
+    struct ovenlute_registers *registers = &call->env.registers;
+
+    if (one_in(2))
+        registers->origin = make_origin(bounds);
+    registers->position.x = before_origin(make_coordinate(bounds->width, is_far), registers->origin.x);
+    registers->position.y = before_origin(make_coordinate(bounds->height, is_far), registers->origin.y);
+    registers->mode = below(3);
+    call->kinds[MODES] = (int)registers->mode;
+    call->kinds[WINDOWS] = (int)below(WINDOW_KINDS);
+    registers->window = make_window((int32_t)bounds->width, (int32_t)bounds->height, call->kinds[WINDOWS]);
+    if (registers->mode == 1 && !one_in(3))
+        registers->window = window_before(registers->window, registers->origin);
+}
+
 static void make_registers(struct call *call, int is_far)
 {
     struct ovenlute_env *env = &call->env;
     struct ovenlute_registers *registers = &env->registers;
 
-    call->kinds[WINDOWS] = (int)below(WINDOW_KINDS);
-    registers->window = make_window((int32_t)env->bounds.width, (int32_t)env->bounds.height, call->kinds[WINDOWS]);
-    registers->mode = below(3);
-    call->kinds[MODES] = (int)registers->mode;
+    make_places(call, is_far);
     registers->pattern = make_pattern();
-    registers->position.x = make_coordinate(env->bounds.width, is_far);
-    registers->position.y = make_coordinate(env->bounds.height, is_far);
     registers->first = one_in(4) ? edge_value() : between(-2, 2);
     registers->second = one_in(4) ? edge_value() : between(-2, 2);
     registers->colour = (uint8_t)random_bits();
@@ -337,26 +357,26 @@ static void break_pane(struct ovenlute_bounds *bounds, int side)
 void break_field(struct call *call)
 {
     struct ovenlute_env *env = &call->env;
-    int member = between(2, 18);
+    int member = between(2, 20);
 
     call->kinds[ENVIRONMENTS] = ENV_BROKEN;
     call->kinds[BROKEN_FIELDS] = member;
     if (member < 6)
         break_pane(&env->bounds, member - 2);
-    else if (member < 12)
+    else if (member < 14)
         set_field(env, POSITION_X + (enum field)(member - 6), bad_word());
-    else if (member == 12)
-        env->registers.mode = bad_mode();
-    else if (member == 13)
-        env->registers.counter = bad_index();
     else if (member == 14)
-        env->registers.depth = bad_depth();
+        env->registers.mode = bad_mode();
     else if (member == 15)
-        break_stack(env);
+        env->registers.counter = bad_index();
     else if (member == 16)
+        env->registers.depth = bad_depth();
+    else if (member == 17)
+        break_stack(env);
+    else if (member == 18)
         env->registers.state = (uint8_t)bad_state();
     else
-        break_place(&env->registers, member == 17);
+        break_place(&env->registers, member == 19);
 }
 
 /* ---- fresh environments and two panes ---- */

@@ -38,9 +38,17 @@ static struct ends make_measured(void)
     return (struct ends){ -k, -aside_at_k, step - k, aside - aside_at_k };
 }
 
-static struct ends on_either_axis(struct ends ends)
+static struct ends turned(struct ends ends)
 {
-    return one_in(2) ? ends : (struct ends){ ends.y0, ends.x0, ends.y1, ends.x1 };
+    return (struct ends){ ends.y0, ends.x0, ends.y1, ends.x1 };
+}
+
+/* The line that an origin brings to where this one is; this one itself where no words are its ends. */
+static struct ends ends_before(struct ends ends, struct ovenlute_dot origin)
+{
+    struct ends before = { ends.x0 - origin.x, ends.y0 - origin.y, ends.x1 - origin.x, ends.y1 - origin.y };
+
+    return is_word(before.x0) && is_word(before.y0) && is_word(before.x1) && is_word(before.y1) ? before : ends;
 }
 
 /* A point of the pane, or one beside it, is on the line, or nearly; it goes ahead or back. */
@@ -49,25 +57,34 @@ static struct ends make_through(const struct ovenlute_pane *pane)
     int32_t x = between((int32_t)pane->left - 1, (int32_t)pane->right + 1);
     int32_t y = between((int32_t)pane->top - 1, (int32_t)pane->bottom + 1);
     int32_t way = one_in(2) ? 1 : -1;
-    struct ends ends = on_either_axis(make_measured());
+    struct ends ends = make_measured();
 
+    if (one_in(2))
+        ends = turned(ends);
     return (struct ends){ x + way * ends.x0, y + way * ends.y0, x + way * ends.x1, y + way * ends.y1 };
 }
 
-/* All coordinates of the long axis, and few of the other. */
-static struct ends make_longest(void)
+/* All coordinates of the long axis, and few of the other, for whose origin they are made. */
+static struct ends make_longest(int32_t origin)
 {
-    struct ends ends = { -32768, between(-3, 12), 32767, between(-3, 12) };
+    int32_t first = before_origin(between(-3, 12), origin), second = before_origin(between(-3, 12), origin);
 
-    return on_either_axis(one_in(2) ? ends : (struct ends){ ends.x1, ends.y1, ends.x0, ends.y0 });
+    return one_in(2) ? (struct ends){ -32768, first, 32767, second } : (struct ends){ 32767, first, -32768, second };
 }
 
-struct ends make_line(const struct ovenlute_bounds *bounds, int is_far)
+static struct ends make_any(const struct ovenlute_bounds *bounds, struct ovenlute_dot origin, int is_far)
 {
-    struct ends ends = { make_coordinate(bounds->width, is_far), make_coordinate(bounds->height, is_far),
-                         make_coordinate(bounds->width, is_far), make_coordinate(bounds->height, is_far) };
+    return (struct ends){ before_origin(make_coordinate(bounds->width, is_far), origin.x),
+                          before_origin(make_coordinate(bounds->height, is_far), origin.y),
+                          before_origin(make_coordinate(bounds->width, is_far), origin.x),
+                          before_origin(make_coordinate(bounds->height, is_far), origin.y) };
+}
 
+struct ends make_line(const struct ovenlute_bounds *bounds, struct ovenlute_dot origin, int is_far)
+{
     if (one_in(500))
-        return make_longest();
-    return one_in(2) ? make_through(&bounds->pane) : ends;
+        return one_in(2) ? make_longest(origin.y) : turned(make_longest(origin.x));
+    if (one_in(2))
+        return ends_before(make_through(&bounds->pane), origin);
+    return make_any(bounds, origin, is_far);
 }

@@ -20,8 +20,11 @@ struct sketch {
     size_t opcodes;
     struct target targets[MOST_TARGETS];
     size_t jumps;
-    struct circle circle;  /* that the opcode draws, if it draws one */
-    struct ends line;      /* the same of a line */
+    struct ovenlute_dot origin;  /* that is set when the opcode comes, where none before it jumps */
+    struct ovenlute_dot aim;     /* that the opcode's points are made for: this one, or (0, 0) */
+    struct circle circle;        /* that the opcode draws, if it draws one */
+    struct ends line;            /* the same of a line */
+    struct ovenlute_dot moved;   /* the origin that the opcode sets, if it sets one */
 };
 
 /* ---- words ---- */
@@ -84,26 +87,10 @@ static int32_t make_immediate(void)
     return between(-4, 12);
 }
 
-/* A value for the operand of this letter. */
-static int32_t make_value(const struct sketch *sketch, char letter)
+/* A part of what the opcode draws, or of the origin that it sets. */
+static int32_t shape_value(const struct sketch *sketch, char letter)
 {
-    const struct ovenlute_bounds *bounds = &sketch->call->env.bounds;
-
     switch (letter) {
-    case 'c':
-        return make_condition();
-    case 'm':
-        return one_in(8) ? edge_value() : between(0, 3);
-    case 't':
-        return one_in(12) ? edge_value() : between(0, 1);
-    case 'u':
-        return one_in(12) ? edge_value() : 0;
-    case 'p':
-        return (int32_t)make_pattern();
-    case 'x':
-        return make_coordinate(bounds->width, sketch->is_far);
-    case 'y':
-        return make_coordinate(bounds->height, sketch->is_far);
     case 'e':
         return sketch->line.x0;
     case 'f':
@@ -122,12 +109,41 @@ static int32_t make_value(const struct sketch *sketch, char letter)
         return sketch->circle.y;
     case 'q':
         return sketch->circle.radius;
+    case 'b':
+        return sketch->moved.x;
+    default:
+        return sketch->moved.y;
+    }
+}
+
+/* A value for the operand of this letter. */
+static int32_t make_value(const struct sketch *sketch, char letter)
+{
+    const struct ovenlute_bounds *bounds = &sketch->call->env.bounds;
+
+    switch (letter) {
+    case 'c':
+        return make_condition();
+    case 'm':
+        return one_in(8) ? edge_value() : between(0, 3);
+    case 't':
+        return one_in(12) ? edge_value() : between(0, 1);
+    case 'u':
+        return one_in(12) ? edge_value() : 0;
+    case 'p':
+        return (int32_t)make_pattern();
+    case 'x':
+        return before_origin(make_coordinate(bounds->width, sketch->is_far), sketch->aim.x);
+    case 'y':
+        return before_origin(make_coordinate(bounds->height, sketch->is_far), sketch->aim.y);
     case 'd':
         return make_offset(sketch);
     case 'o':
         return (int32_t)random_bits();
-    default:
+    case 'l': case 'w':
         return make_immediate();
+    default:
+        return shape_value(sketch, letter);
     }
 }
 
@@ -224,6 +240,20 @@ static void put_first_point(struct sketch *sketch)
     put_word(sketch, sketch->line.y0);
 }
 
+/* What the opcode draws, or the origin that it sets: made once, since it is more than one operand. */
+static void make_shape(struct sketch *sketch, const struct form *form)
+{
+    const struct ovenlute_bounds *bounds = &sketch->call->env.bounds;
+
+    sketch->aim = one_in(3) ? (struct ovenlute_dot){ 0, 0 } : sketch->origin;
+    if (has(form, 'q'))
+        sketch->circle = make_circle(bounds, sketch->aim);
+    if (has(form, 't'))
+        sketch->line = make_line(bounds, sketch->aim, sketch->is_far);
+    if (has(form, 'b'))
+        sketch->moved = make_origin(bounds);
+}
+
 /* One opcode of this form, at times with its variables loaded before. */
 static void put_form(struct sketch *sketch, const struct form *form)
 {
@@ -232,10 +262,7 @@ static void put_form(struct sketch *sketch, const struct form *form)
     size_t earlier_jumps = sketch->jumps;
     int named = 0;
 
-    if (has(form, 'q'))
-        sketch->circle = make_circle(&sketch->call->env.bounds);
-    if (has(form, 't'))
-        sketch->line = make_line(&sketch->call->env.bounds, sketch->is_far);
+    make_shape(sketch, form);
     if (has(form, 't') && !has(form, 'e') && one_in(2))
         put_first_point(sketch);
     variables[0] = make_variable_number(implied > 0 ? implied : 1);
@@ -249,6 +276,8 @@ static void put_form(struct sketch *sketch, const struct form *form)
         put_operand(sketch, *letter, variables[*letter == 'v' ? named++ : 0]);
     for (size_t i = earlier_jumps; i < sketch->jumps; i++)
         sketch->targets[i].next = sketch->call->words;
+    if (has(form, 'b'))
+        sketch->origin = sketch->moved;
 }
 
 static void put_named(struct sketch *sketch, uint16_t opcode)
@@ -379,7 +408,7 @@ static void put_jump_back(struct sketch *sketch, int32_t condition, size_t start
 /* A counting loop, with up to two opcodes besides the count. */
 static void put_loop(struct sketch *sketch)
 {
-    static const uint16_t body[] = { 0x0003, 0x0080, 0x0085, 0x009E, 0x009F, 0x007E, 0x0020, 0x0188 };
+    static const uint16_t body[] = { 0x0003, 0x0080, 0x0085, 0x009E, 0x009F, 0x007E, 0x0020, 0x0101, 0x0188 };
     int32_t limit = between(-3, 40);
     size_t start;
 
@@ -474,6 +503,19 @@ static void put_lines(struct sketch *sketch)
     put_end(sketch);
 }
 
+/* Origins, modes and windows, and every shape under them. */
+static void put_origins(struct sketch *sketch)
+{
+    static const uint16_t opcodes[] = {
+        0x0100, 0x0100, 0x0101, 0x0101, 0x0016, 0x0016, 0x0017, 0x0018, 0x0082, 0x009E, 0x009F, 0x0150, 0x0151, 0x0074, 0x0075,
+        0x007C, 0x007E, 0x0012, 0x0013, 0x0014, 0x0015, 0x0188, 0x0189,
+    };
+
+    for (uint32_t i = 3 + below(10); i > 0; i--)
+        put_named(sketch, opcodes[below(sizeof opcodes / sizeof opcodes[0])]);
+    put_end(sketch);
+}
+
 /* 65,536 words, or a few less: a jump to the opcodes at the very end. */
 static void put_longest(struct sketch *sketch)
 {
@@ -498,7 +540,7 @@ static int make_list_kind(void)
     static const int kinds[] = {
         LIST_VALID, LIST_VALID, LIST_VALID, LIST_VALID, LIST_VALID, LIST_VALID, LIST_VALID, LIST_DAMAGED,
         LIST_DAMAGED, LIST_DAMAGED, LIST_RANDOM, LIST_RANDOM, LIST_LOOP, LIST_LOOP, LIST_CALLS, LIST_CALLS,
-        LIST_LINES, LIST_LINES, LIST_LINES,
+        LIST_LINES, LIST_LINES, LIST_LINES, LIST_ORIGINS, LIST_ORIGINS, LIST_ORIGINS,
     };
 
     if (one_in(100))
@@ -533,6 +575,9 @@ static void put_list(struct sketch *sketch, int kind)
         break;
     case LIST_LINES:
         put_lines(sketch);
+        break;
+    case LIST_ORIGINS:
+        put_origins(sketch);
         break;
     default:
         put_longest(sketch);
@@ -569,6 +614,7 @@ static void place_counter(struct sketch *sketch)
 static void start_sketch(struct sketch *sketch, struct call *call, int is_far)
 {
     sketch->call = call;
+    sketch->origin = call->env.registers.origin;
     sketch->is_far = is_far;
     sketch->opcodes = 0;
     sketch->jumps = 0;

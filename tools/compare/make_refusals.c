@@ -154,12 +154,12 @@ static void make_23_24(struct call *call)
 /* The last variable out of range, and a follower above 63. */
 static void make_23_25(struct call *call)
 {
-    static const uint16_t pairs[] = { 0x0083, 0x0085, 0x009F, 0x0019, 0x0151 };
+    static const uint16_t pairs[] = { 0x0083, 0x0085, 0x009F, 0x0019, 0x0151, 0x0101 };
 
     call->env.variables[62] = 0;
     call->env.variables[63] = bad_coordinate();
     if (one_in(2)) {
-        put_one_of(call, pairs, 5);
+        put_one_of(call, pairs, 6);
         put(call, 63);
     } else {
         put_one_of(call, typed_v_forms, 5);
