@@ -11,12 +11,13 @@ enum { MOST_WORDS = 65536, MOST_STEPS = 1000000, MOST_SIDE = 2048 };
 enum { LIST_ROOM = MOST_WORDS + 64, SCREEN_ROOM = MOST_SIDE * MOST_SIDE + 4 * MOST_SIDE };
 
 /* Whatever is counted belongs to one of these groups. A call has at most one member of each, but for those from CLEARINGS on:
-   those are counted for each CLRWIN, each line and each circle on its way. */
+   those are counted for each CLRWIN, each line, each circle and each origin on its way. */
 enum group {
     CALLS, LISTS, ENVIRONMENTS, BROKEN_FIELDS, SIZES, PANES, WINDOWS, MODES, BUDGETS, SCREENS,
     DOOR_PAIRS, OPCODE_PAIRS, SLICED, SLICES, FRESH_CALLS, NUMBERS, PLACES, MISNAMED, CLEARINGS, LINES, HALVES, CUTS,
     DASH_OPCODES, DASH_PATTERNS, DASH_LENGTHS, DASHES_X_AHEAD, DASHES_X_BACK, DASHES_Y_AHEAD, DASHES_Y_BACK,
     REFUSED_LINES, LIT_LENGTHS, LIT_PATTERNS, LIT_RUNS, LIT_LINES, FILLED_CIRCLES, OUTLINES, REFUSED_CIRCLES,
+    ORIGINS_SET, REFUSED_ORIGINS, ORIGINS, MOVED_SHAPES, SUMS, MOVED_WINDOWS, MODES_CHANGED,
     GROUPS
 };
 
@@ -111,6 +112,34 @@ enum {
     REFUSED_TYPE_1, REFUSED_TYPE_AND_CENTRE, REFUSED_TYPE_AND_RADIUS, REFUSED_CENTRE, REFUSED_CENTRE_AND_RADIUS,
     REFUSED_RADIUS_32768, REFUSED_RADIUS_ABOVE, REFUSED_RADIUS_BELOW_0
 };
+
+/* How an origin came to be: by either opcode in place of (0, 0), by either in place of another one, back to (0, 0) by either, or
+   with the environment. */
+enum {
+    SET_BY_XYORG, SET_BY_XYORGV, SET_OVER_ANOTHER, SET_BACK = 2 * SET_OVER_ANOTHER, SET_BY_ENVIRONMENT
+};
+
+/* What was wrong about one: x, y or both beyond a word; a value whose low word would do; the variable, or only its follower. */
+enum {
+    REFUSED_ORIGIN_X, REFUSED_ORIGIN_Y, REFUSED_ORIGIN_BOTH, REFUSED_ORIGIN_LOW_WORD, REFUSED_ORIGIN_VARIABLE,
+    REFUSED_ORIGIN_FOLLOWER
+};
+
+/* The origin that a shape was drawn under: none, one about the screen, either end of the word, or another. */
+enum {
+    ORIGIN_NONE, ORIGIN_SMALL, ORIGIN_X_LOWEST, ORIGIN_X_HIGHEST, ORIGIN_Y_LOWEST, ORIGIN_Y_HIGHEST, ORIGIN_OTHER
+};
+
+/* The sum of an origin and a point of a shape: the least and the greatest, or one beyond a signed word, and whether some of the
+   shape is seen all the same. */
+enum {
+    SUM_X_LOWEST, SUM_X_HIGHEST, SUM_Y_LOWEST, SUM_Y_HIGHEST, SUM_DOT_BEYOND, SUM_LINE_BEYOND, SUM_LINE_BEYOND_SEEN,
+    SUM_CIRCLE_BEYOND, SUM_CIRCLE_BEYOND_SEEN
+};
+
+/* The window under an origin: one of mode 1 as it is moved, by where it is on the screen, or, beyond a signed word, reaches it
+   all the same; or one of mode 2. */
+enum { WINDOW_1_EMPTY, WINDOW_1_OFF, WINDOW_1_CUT, WINDOW_1_INSIDE, WINDOW_1_BEYOND_SEEN, WINDOW_2 };
 
 enum { NOT_OF_A_KIND = -1, NO_EXPECTATION = -1 };
 

@@ -5,6 +5,7 @@
 #include "forms.h"
 #include "libc.h"
 #include "lines.h"
+#include "origins.h"
 #include "places.h"
 
 enum { MOST_MEMBERS = 24, STEPS_FOLLOWED = 200 };
@@ -72,6 +73,19 @@ static const struct {
     [REFUSED_CIRCLES] = { "circles refused", { "24 type 1", "24+25 centre", "24+25 radius", "25 centre",
                                                "25 centre and radius", "25 radius 32768", "25 radius above",
                                                "25 radius below 0" } },
+    [ORIGINS_SET] = { "origins set", { "XYORG", "XYORGV", "XYORG over another", "XYORGV over another", "back to (0, 0)",
+                                       "by the environment" } },
+    [REFUSED_ORIGINS] = { "origins refused", { "25 x", "25 y", "25 both", "25 low word about the screen", "23 Vi",
+                                               "23 a follower" } },
+    [ORIGINS] = { "drawn under an origin", { "(0, 0)", "about the screen", "x -32768", "x 32767", "y -32768", "y 32767",
+                                             "other" } },
+    [MOVED_SHAPES] = { "moved and seen", { "dot", "line", "dashed line", "filled circle", "outline", "CLRWIN" } },
+    [SUMS] = { "sums", { "x -65536", "x 65534", "y -65536", "y 65534", "dot beyond a word", "line beyond, not seen",
+                         "line beyond, seen", "circle beyond, not seen", "circle beyond, seen" } },
+    [MOVED_WINDOWS] = { "windows under an origin", { "mode 1 empty", "mode 1 off the screen", "mode 1 cut by the screen",
+                                                     "mode 1 inside the screen", "mode 1 beyond a word, on the screen",
+                                                     "mode 2" } },
+    [MODES_CHANGED] = { "modes changed under an origin", { "0 to 1", "0 to 2", "1 to 0", "1 to 2", "2 to 0", "2 to 1" } },
 };
 
 static uint64_t kinds_met[GROUPS][MOST_MEMBERS];
@@ -141,6 +155,7 @@ static void count_forms(const struct call *call)
     struct afgis_answer answer = { 1, 0, 1 };
 
     to_reference(&call->env, &env);
+    count_first_origin(&env);
     for (uint32_t step = 0; answer.number == 1 && step < call->budget && step < STEPS_FOLLOWED; step++) {
         before = env;
         answer = afgis_run(call->list, call->words, scratch, call->bytes, &env, 1);
@@ -149,6 +164,7 @@ static void count_forms(const struct call *call)
             count_clearing(call->list[before.counter], answer, &env);
             count_circle(call->list + before.counter, &before, answer);
             count_dash(call->list + before.counter, &before, &env, answer);
+            count_origin(call->list + before.counter, &before, &env, answer);
         }
         if (answer.number == 23)
             count_misnamed(call->list + before.counter);
