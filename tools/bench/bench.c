@@ -166,15 +166,34 @@ static void make_long_dashed_lines(void)
     put_long_lines(1);
 }
 
-static void make_dots(void)
+static void put_origin(int32_t x, int32_t y)
+{
+    put(0x0100);
+    put(x);
+    put(y);
+}
+
+/* On the screen or close by, seen from this origin. */
+static void put_dots(int32_t origin_x, int32_t origin_y)
 {
     for (int i = 0; i < 20000; i++) {
         int32_t x = between(-10, WIDTH + 9), y = between(-10, HEIGHT + 9);
         put(0x009E);
-        put(x);
-        put(y);
+        put(x - origin_x);
+        put(y - origin_y);
     }
     put(0x0001);
+}
+
+static void make_dots(void)
+{
+    put_dots(0, 0);
+}
+
+static void make_moved_dots(void)
+{
+    put_origin(300, -200);
+    put_dots(300, -200);
 }
 
 static void put_circle(uint16_t opcode, int32_t x, int32_t y, int32_t radius)
@@ -248,6 +267,17 @@ static void make_clear(void)
     put(0x0001);
 }
 
+/* The window has the columns 400 to 599 and the rows 300 to 449 of the screen. */
+static void make_moved_clear(void)
+{
+    static const uint16_t window[] = { 0x0018, 0, 0, 199, 149, 0x0016, 1 };
+
+    for (size_t i = 0; i < sizeof window / sizeof window[0]; i++)
+        put(window[i]);
+    put_origin(400, 300);
+    make_clear();
+}
+
 #define WHOLE(width, height) width, height, { 0, 0, width - 1, height - 1 }
 #define PANE(width, height) width, height, { 400, 300, 599, 449 }
 #define COLUMNS(width, height) width, height, { 400, 0, 409, height - 1 }
@@ -271,8 +301,10 @@ static const struct work works[] = {
     { "outlines of radius 40", make_outlines_of_40, WHOLE(WIDTH, HEIGHT), 4, 0, 1 },
     { "outlines of radius 400", make_outlines_of_400, WHOLE(WIDTH, HEIGHT), 10, 0, 1 },
     { "discs of radius 32,767 through ten rows", make_largest_discs, ROWS(WIDTH, HEIGHT), 4, 0, 1 },
+    { "single dots, moved by an origin", make_moved_dots, WHOLE(WIDTH, HEIGHT), 20, 0, 0 },
     { "CLRWIN, a whole screen of 2,048 x 2,048", make_clear, WHOLE(2048, 2048), 2, 1, 0 },
     { "CLRWIN, a whole screen of 640 x 480", make_clear, WHOLE(640, 480), 20, 1, 0 },
+    { "CLRWIN, a window of 200 x 150 of mode 1, moved by an origin", make_moved_clear, WHOLE(640, 480), 40, 0, 0 },
     { "CLRWIN, a pane of 200 x 150 in 640 x 480", make_clear, PANE(640, 480), 40, 0, 0 },
     { "CLRWIN, a pane of 200 x 150 in 2,048 x 2,048", make_clear, PANE(2048, 2048), 10, 0, 0 },
 };

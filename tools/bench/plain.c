@@ -29,10 +29,12 @@ static struct area drawable(const struct afgis_env *env)
     struct area area = { (int32_t)env->left, (int32_t)env->top, (int32_t)env->right, (int32_t)env->bottom };
 
     if (env->mode != 0) {
-        area.left = larger(area.left, env->x0);
-        area.top = larger(area.top, env->y0);
-        area.right = smaller(area.right, env->x1);
-        area.bottom = smaller(area.bottom, env->y1);
+        int32_t across = env->mode == 1 ? env->origin_x : 0;
+        int32_t down = env->mode == 1 ? env->origin_y : 0;
+        area.left = larger(area.left, env->x0 + across);
+        area.top = larger(area.top, env->y0 + down);
+        area.right = smaller(area.right, env->x1 + across);
+        area.bottom = smaller(area.bottom, env->y1 + down);
     }
     return area;
 }
@@ -82,7 +84,8 @@ static inline void walk_line(const struct machine *m, int is_dashed, int32_t x0,
 /* A walk of its own for each type, so that neither asks for it at a dot. */
 static int paint_line(const struct machine *m, const uint16_t *word, uint32_t *counter)
 {
-    int32_t x0 = (int16_t)word[2], y0 = (int16_t)word[3], x1 = (int16_t)word[4], y1 = (int16_t)word[5];
+    int32_t x0 = m->env->origin_x + (int16_t)word[2], y0 = m->env->origin_y + (int16_t)word[3];
+    int32_t x1 = m->env->origin_x + (int16_t)word[4], y1 = m->env->origin_y + (int16_t)word[5];
 
     if (word[1] > 1)
         return 24;
@@ -175,7 +178,7 @@ static void paint_outline(const struct machine *m, struct circle circle)
 
 static int paint_circle(const struct machine *m, const uint16_t *word, uint32_t *counter)
 {
-    struct circle circle = { (int16_t)word[2], (int16_t)word[3], (int16_t)word[4] };
+    struct circle circle = { m->env->origin_x + (int16_t)word[2], m->env->origin_y + (int16_t)word[3], (int16_t)word[4] };
 
     if (word[1] != 0)
         return 24;
@@ -186,6 +189,42 @@ static int paint_circle(const struct machine *m, const uint16_t *word, uint32_t 
     else
         paint_outline(m, circle);
     *counter += 5;
+    return 0;
+}
+
+static int paint_dot(const struct machine *m, const uint16_t *word, uint32_t *counter)
+{
+    const struct afgis_env *env = m->env;
+
+    paint(m, drawable(env), env->origin_x + (int16_t)word[1], env->origin_y + (int16_t)word[2], env->colour);
+    *counter += 3;
+    return 0;
+}
+
+static int set_mode(struct afgis_env *env, const uint16_t *word, uint32_t *counter)
+{
+    if (word[1] > 2)
+        return 24;
+    env->mode = word[1];
+    *counter += 2;
+    return 0;
+}
+
+static int set_window(struct afgis_env *env, const uint16_t *word, uint32_t *counter)
+{
+    env->x0 = (int16_t)word[1];
+    env->y0 = (int16_t)word[2];
+    env->x1 = (int16_t)word[3];
+    env->y1 = (int16_t)word[4];
+    *counter += 5;
+    return 0;
+}
+
+static int set_origin(struct afgis_env *env, const uint16_t *word, uint32_t *counter)
+{
+    env->origin_x = (int16_t)word[1];
+    env->origin_y = (int16_t)word[2];
+    *counter += 3;
     return 0;
 }
 
@@ -243,6 +282,10 @@ static inline int carry_out(struct machine *m, uint32_t *counter)
     case 0x0012:
     case 0x0014:
         return left < 5 ? 22 : paint_circle(m, word, counter);
+    case 0x0016:
+        return left < 2 ? 22 : set_mode(env, word, counter);
+    case 0x0018:
+        return left < 5 ? 22 : set_window(env, word, counter);
     case 0x0033:
         if (left < 4)
             return 22;
@@ -269,11 +312,9 @@ static inline int carry_out(struct machine *m, uint32_t *counter)
         *counter += 3;
         return 0;
     case 0x009E:
-        if (left < 3)
-            return 22;
-        paint(m, drawable(env), (int16_t)word[1], (int16_t)word[2], env->colour);
-        *counter += 3;
-        return 0;
+        return left < 3 ? 22 : paint_dot(m, word, counter);
+    case 0x0100:
+        return left < 3 ? 22 : set_origin(env, word, counter);
     case 0x010C:
         return left < 3 ? 22 : jump(m, word, counter);
     case 0x0188:
