@@ -9,9 +9,9 @@ use crate::frame::Frame;
 use crate::frame::Pane;
 use crate::frame::Window;
 ghost use mathlib.Core.Path.{_≡_};
-ghost use mathlib.Core.Bool.{_&&_};
+ghost use mathlib.Core.Bool.{_&&_, _||_};
 ghost use Prim.Native.Nat.{_<_, _≤_};
-ghost use lib.Dec.{leb};
+ghost use lib.Dec.{leb, eqb};
 ghost use lib.ListN.{set};
 ghost use Rattle.raster.specs.Frame.{Coord, Sane};
 ghost use Rattle.raster.specs.Rects.{byteB, insideB, paneRect, windowRect, clipRect, overlapOf, rectOf, Placed, Seen};
@@ -85,10 +85,11 @@ pub fn rect_of(f: Frame) -> Rect
     ensures { λ r. ⌜ r ≡ rectOf f ⌝ }
 {
     let p = pane_rect(f.bounds.pane);
+    let w = clip_rect(f);
     if f.mode == 0 {
         return p;
     }
-    overlap(p, clip_rect(f))
+    overlap(p, w)
 }
 
 fn inside(r: Rect, p: Spot) -> bool
@@ -114,22 +115,30 @@ pub fn among(lo: u32, hi: u32, x: u32) -> bool
     std::num::wrapping_sub_u32(x, lo) <= hi - lo
 }
 
+// The mode lets the dot through.
+fn in_clip(f: Frame, p: Spot) -> bool
+    requires { ⌜ Sane f ⌝ }
+    ensures { λ b. ⌜ b ≡ (eqb (f .mode) 0 || insideB (clipRect f) (p .x) (p .y)) ⌝ }
+{
+    if f.mode == 0 {
+        return true;
+    }
+    inside(clip_rect(f), p)
+}
+
 // The dot is drawable: what a single dot asks in place of the rectangle. No pane is empty.
 pub fn visible(f: Frame, p: Spot) -> bool
     requires { ⌜ Sane f ⌝ }
     ensures { λ b. ⌜ b ≡ insideB (rectOf f) (p .x) (p .y) ⌝ }
 {
+    if !in_clip(f, p) {
+        return false;
+    }
     let pane = pane_rect(f.bounds.pane);
     if !among(pane.l, pane.r, p.x) {
         return false;
     }
-    if !among(pane.t, pane.b, p.y) {
-        return false;
-    }
-    if f.mode == 0 {
-        return true;
-    }
-    inside(clip_rect(f), p)
+    among(pane.t, pane.b, p.y)
 }
 
 // The dot's byte on a screen of w columns.

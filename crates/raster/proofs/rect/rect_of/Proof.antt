@@ -11,23 +11,23 @@ use Rattle.raster.proofs.rect.rect_of.Tie as tie
 pane-rect-requires : tie.Need-pane-rect-requires
 pane-rect-requires c κs = search needs
 
-returns : tie.Need-returns
-returns c =
-    let p = c .before .before in
-    let f = p .before .args .f in
-    p .pane-rect .ensures ∙ sym (ap (λ (t : Bool). rectBy t f) (eq-eqb (f .mode) 0 (c .if1 .taken)))
-
 clip-rect-requires : tie.Need-clip-rect-requires
 clip-rect-requires c κs = search needs
+
+returns : tie.Need-returns
+returns c =
+    let p = c .before .before .before in
+    let f = p .before .args .f in
+    p .pane-rect .ensures ∙ sym (ap (λ (t : Bool). rectBy t f) (eq-eqb (f .mode) 0 (c .if1 .taken)))
 
 overlap-requires : tie.Need-overlap-requires
 overlap-requires c κs = search needs
 
 returns-2 : tie.Need-returns-2
 returns-2 c =
-    let w = c .before in
-    let e = w .before in
-    let p = e .before .before in
+    let e = c .before in
+    let w = e .before .before in
+    let p = w .before in
     let f = p .before .args .f in
     c .overlap .ensures
     ∙ ap₂ (λ (q r : Rect). overlapOf q r) (p .pane-rect .ensures) (w .clip-rect .ensures)
@@ -35,4 +35,4 @@ returns-2 c =
 
 pub rect-of-spec : {M : Type 1} → statement M
 rect-of-spec =
-    tie.close (tie.spec pane-rect-requires returns clip-rect-requires overlap-requires returns-2)
+    tie.close (tie.spec pane-rect-requires clip-rect-requires returns overlap-requires returns-2)
