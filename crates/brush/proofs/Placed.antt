@@ -5,14 +5,12 @@ use Prim.Native.Nat.{ℕ}
 use lib.IntN.{pos}
 use Rattle.raster.specs.declared.dots.Dot.{Dot}
 use Rattle.raster.specs.declared.biased.Spot.{Spot}
-use Rattle.raster.specs.Shapes.{dot, shifted, movedBy}
+use Rattle.raster.specs.Shapes.{dot, movedBy}
 use Rattle.raster.specs.Frame.{Word}
 use Rattle.raster.specs.Biased.{dotOf, WordB, shiftedB}
-use Rattle.lines.specs.declared.line.Line.{Line}
 use Rattle.lines.specs.Line.{line, lineBy}
 use Rattle.lines.specs.Dashes.{dashed}
 use Rattle.lines.specs.Courses.{lineOf}
-use Rattle.circles.specs.declared.circle.Circle.{Circle}
 use Rattle.circles.specs.Circle.{circle, circleBy}
 use Rattle.circles.specs.Reaches.{circleOf}
 use Rattle.raster.proofs.Words.{shifted-back}

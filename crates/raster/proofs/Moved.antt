@@ -1,10 +1,10 @@
 -- Moved shapes: with its points moved by o a shape is the shape moved by o, no coordinate bounded.
 use mathlib.Core.Path.{_≡_, sym, ap, ap₂, _∙_}
 use mathlib.Core.Bool.{Bool, _&&_}
-use lib.IntN.{ℤ, pos, negℤ, natAbs, _+ℤ_, _-ℤ_, ℤ-discrete, +ℤ-idr, +ℤ-comm, +ℤ-assoc, negℤ-+ℤ, +ℤ-negℤ-cancel, -ℤ-+ℤ-cancel}
+use lib.IntN.{ℤ, negℤ, natAbs, _+ℤ_, _-ℤ_, ℤ-discrete, +ℤ-idr, +ℤ-comm, +ℤ-assoc, negℤ-+ℤ, +ℤ-negℤ-cancel, -ℤ-+ℤ-cancel}
 use lib.Signed.{leZ, nonNeg}
 use Rattle.raster.specs.declared.dots.Dot.{Dot}
-use Rattle.raster.specs.Shapes.{Shape, eqZ, gap, dot, shifted, movedBy}
+use Rattle.raster.specs.Shapes.{Shape, topLeft, eqZ, gap, dot, shifted, movedBy}
 use Rattle.raster.specs.Frame.{within}
 use Rattle.raster.proofs.Points.{eqZ-refl, eqZ-apart}
 use Rattle.raster.proofs.Coordinates.{rises}
@@ -63,5 +63,5 @@ dot-moved d o = sym (λ i x y. eq-moved (d .x) (o .x) x i && eq-moved (d .y) (o 
 pub within-moved : (a b o x : ℤ) → within a b (x -ℤ o) ≡ within (a +ℤ o) (b +ℤ o) x
 within-moved a b o x = ap₂ (λ (s t : Bool). s && t) (le-moved a o x) (moved-le b o x)
 
-pub not-moved : (S : Shape) → movedBy (record { x = pos 0; y = pos 0 }) S ≡ S
+pub not-moved : (S : Shape) → movedBy topLeft S ≡ S
 not-moved S = λ i x y. S (+ℤ-idr x i) (+ℤ-idr y i)

@@ -4,7 +4,8 @@ use mathlib.Core.Bool.{true, false}
 use borrow.Author.Needs.{needs}
 use Rattle.raster.specs.declared.biased.Spot.{Spot}
 use Rattle.raster.specs.Shapes.{Shape, dot, movedBy}
-use Rattle.raster.specs.Biased.{dotOf, NearB}
+use Rattle.raster.specs.Frame.{Word}
+use Rattle.raster.specs.Biased.{dotOf, WordB, NearB, shiftedB}
 use Rattle.raster.specs.Paint.{paint}
 use Rattle.lines.specs.Line.{line}
 use Rattle.lines.specs.Dashes.{dashed}
@@ -19,6 +20,9 @@ use Rattle.brush.proofs.Placed.{dot-placed, line-placed, dashed-placed,
 use Rattle.brush.proofs.paint.Statement.{statement}
 use Rattle.brush.proofs.paint.Tie as tie
 
+abbrev S : tie.After-match2 → tie.Start
+S m = m .before .before .before .before
+
 -- the brush holds the shape T, and R is T, moved to the origin
 as-held : (s : tie.Start) (R T : Shape) → let g = s .args in
     R ≡ movedBy (g .f .origin) T → shapeOf (g .brush .now) ≡ T
@@ -32,7 +36,7 @@ returns c =
     let d = c .before .before in
     let p = d .before in
     let k = p .before .before in
-    let s = k .before .before .before .before .before in
+    let s = S (k .before) in
     let b = s .args .brush .now in
     d .plot .ensures
     ∙ as-held s _ _
@@ -45,7 +49,7 @@ returns-2 c =
     let q = d .before in
     let p = q .before in
     let k = p .before .before in
-    let s = k .before .before .before .before .before in
+    let s = S (k .before) in
     let b = s .args .brush .now in
     let h = s .pre .1 .line (k .match .keys2) in
     d .draw-line .ensures
@@ -57,7 +61,7 @@ returns-3 : tie.Need-returns-3
 returns-3 c =
     let d = c .before .before in
     let k = d .before .before in
-    let s = k .before .before .before .before .before in
+    let s = S (k .before) in
     d .fill .ensures ∙ as-held s _ _ refl (holds-all (s .args .brush .now) (k .match .keys3))
 
 returns-4 : tie.Need-returns-4
@@ -65,7 +69,7 @@ returns-4 c =
     let d = c .before .before in
     let p = d .before .before in
     let k = p .before .before in
-    let s = k .before .before .before .before .before in
+    let s = S (k .before) in
     let b = s .args .brush .now in
     d .draw-disc .ensures
     ∙ as-held s _ _
@@ -77,7 +81,7 @@ returns-5 c =
     let d = c .before .before in
     let p = d .before .before in
     let k = p .before .before in
-    let s = k .before .before .before .before .before in
+    let s = S (k .before) in
     let b = s .args .brush .now in
     d .draw-outline .ensures
     ∙ as-held s _ _
@@ -90,7 +94,7 @@ returns-6 c =
     let q = d .before .before in
     let p = q .before in
     let k = p .before .before in
-    let s = k .before .before .before .before .before in
+    let s = S (k .before) in
     let b = s .args .brush .now in
     let h = s .pre .1 .dashed (k .match .keys6) in
     d .draw-dashed .ensures
@@ -100,91 +104,88 @@ returns-6 c =
 
 returns-7 : tie.Need-returns-7
 returns-7 c =
-    let s = c .before .before .before .before .before in
+    let s = S (c .before) in
     let g = s .args in
     sym (nothing (g .f) (colourOf (g .brush .now)) (g .screen .now)) ∙ as-held s _ _ refl (holds-none (g .brush .now) (c .match .rest))
 
 -- ---- the points are signed words, and moved they are coordinates
+handed : (s : tie.Start) (p : Spot) → WordB p → let o = s .args .f .origin in WordB p × Word (o .x) × Word (o .y)
+handed s p h = let o = s .pre .0 .sane .origin in (h, o .0, o .1)
+
+moved : (s : tie.Start) (p q : Spot) → WordB p → q ≡ shiftedB p (s .args .f .origin) → NearB q
+moved s p q h is = subst⁻¹ NearB is (near-shifted p (s .args .f .origin) h (s .pre .0 .sane .origin))
+
 one-requires : tie.Need-one-requires
 one-requires c κs =
     let k = c .before in
-    let s = k .before .before .before .before .before in
-    let o = s .pre .0 .sane .origin in
-    (s .pre .1 .dot (k .match .keys1), o .0, o .1)
+    let s = S (k .before) in
+    handed s (one (s .args .brush .now)) (s .pre .1 .dot (k .match .keys1))
 
 one-requires-2 : tie.Need-one-requires-2
 one-requires-2 c κs =
     let k = c .before in
-    let s = k .before .before .before .before .before in
-    let o = s .pre .0 .sane .origin in
-    (s .pre .1 .line (k .match .keys2) .0, o .0, o .1)
+    let s = S (k .before) in
+    handed s (one (s .args .brush .now)) (s .pre .1 .line (k .match .keys2) .0)
 
 other-requires : tie.Need-other-requires
 other-requires c κs =
     let k = c .before .before in
-    let s = k .before .before .before .before .before in
-    let o = s .pre .0 .sane .origin in
-    (s .pre .1 .line (k .match .keys2) .1, o .0, o .1)
+    let s = S (k .before) in
+    handed s (other (s .args .brush .now)) (s .pre .1 .line (k .match .keys2) .1)
 
 draw-line-requires : tie.Need-draw-line-requires
 draw-line-requires c κs =
     let k = c .before .before .before in
-    let s = k .before .before .before .before .before in
-    let o = s .pre .0 .sane .origin in
+    let s = S (k .before) in
     let b = s .args .brush .now in
     let h = s .pre .1 .line (k .match .keys2) in
-    (s .pre .0, (subst⁻¹ NearB (c .before .one2 .ensures) (near-shifted (one b) _ (h .0) o), subst⁻¹ NearB (c .other .ensures) (near-shifted (other b) _ (h .1) o)))
+    (s .pre .0, (moved s (one b) _ (h .0) (c .before .one2 .ensures), moved s (other b) _ (h .1) (c .other .ensures)))
 
 one-requires-3 : tie.Need-one-requires-3
 one-requires-3 c κs =
     let k = c .before in
-    let s = k .before .before .before .before .before in
-    let o = s .pre .0 .sane .origin in
-    (s .pre .1 .disc (k .match .keys4) .0, o .0, o .1)
+    let s = S (k .before) in
+    handed s (one (s .args .brush .now)) (s .pre .1 .disc (k .match .keys4) .0)
 
 draw-disc-requires : tie.Need-draw-disc-requires
 draw-disc-requires c κs =
     let k = c .before .before .before in
-    let s = k .before .before .before .before .before in
+    let s = S (k .before) in
     let h = s .pre .1 .disc (k .match .keys4) in
-    (s .pre .0, (subst⁻¹ NearB (c .before .one3 .ensures) (near-shifted (one (s .args .brush .now)) _ (h .0) (s .pre .0 .sane .origin)), h .1))
+    (s .pre .0, (moved s (one (s .args .brush .now)) _ (h .0) (c .before .one3 .ensures), h .1))
 
 one-requires-4 : tie.Need-one-requires-4
 one-requires-4 c κs =
     let k = c .before in
-    let s = k .before .before .before .before .before in
-    let o = s .pre .0 .sane .origin in
-    (s .pre .1 .outline (k .match .keys5) .0, o .0, o .1)
+    let s = S (k .before) in
+    handed s (one (s .args .brush .now)) (s .pre .1 .outline (k .match .keys5) .0)
 
 draw-outline-requires : tie.Need-draw-outline-requires
 draw-outline-requires c κs =
     let k = c .before .before .before in
-    let s = k .before .before .before .before .before in
+    let s = S (k .before) in
     let h = s .pre .1 .outline (k .match .keys5) in
-    (s .pre .0, (subst⁻¹ NearB (c .before .one4 .ensures) (near-shifted (one (s .args .brush .now)) _ (h .0) (s .pre .0 .sane .origin)), h .1))
+    (s .pre .0, (moved s (one (s .args .brush .now)) _ (h .0) (c .before .one4 .ensures), h .1))
 
 one-requires-5 : tie.Need-one-requires-5
 one-requires-5 c κs =
     let k = c .before in
-    let s = k .before .before .before .before .before in
-    let o = s .pre .0 .sane .origin in
-    (s .pre .1 .dashed (k .match .keys6) .0, o .0, o .1)
+    let s = S (k .before) in
+    handed s (one (s .args .brush .now)) (s .pre .1 .dashed (k .match .keys6) .0)
 
 other-requires-2 : tie.Need-other-requires-2
 other-requires-2 c κs =
     let k = c .before .before in
-    let s = k .before .before .before .before .before in
-    let o = s .pre .0 .sane .origin in
-    (s .pre .1 .dashed (k .match .keys6) .1, o .0, o .1)
+    let s = S (k .before) in
+    handed s (other (s .args .brush .now)) (s .pre .1 .dashed (k .match .keys6) .1)
 
 draw-dashed-requires : tie.Need-draw-dashed-requires
 draw-dashed-requires c κs =
     let k = c .before .before .before .before in
-    let s = k .before .before .before .before .before in
-    let o = s .pre .0 .sane .origin in
+    let s = S (k .before) in
     let b = s .args .brush .now in
     let h = s .pre .1 .dashed (k .match .keys6) in
-    (s .pre .0, (subst⁻¹ NearB (c .before .before .one5 .ensures) (near-shifted (one b) _ (h .0) o), subst⁻¹ NearB (c .before .other2 .ensures) (near-shifted (other b) _ (h .1) o)))
+    (s .pre .0, (moved s (one b) _ (h .0) (c .before .before .one5 .ensures), moved s (other b) _ (h .1) (c .before .other2 .ensures)))
 
 pub paint-spec : {M : Type 1} → statement M
 paint-spec =

@@ -1,9 +1,7 @@
 -- `raster::rect::clip_rect` meets its contract: in mode 1 both corners are moved.
-use mathlib.Core.Path.{_≡_, sym, ap, ap₂, _∙_}
+use mathlib.Core.Path.{sym, ap, ap₂, _∙_}
 use mathlib.Core.Bool.{Bool}
-use borrow.Author.Needs.{needs}
 use borrow.Author.Tests.{eq-eqb, ne-eqb}
-use Rattle.raster.specs.declared.biased.Spot.{Spot}
 use Rattle.raster.specs.declared.rect.Rect.{Rect}
 use Rattle.raster.specs.Rects.{rectFrom, shiftedRect, clipBy}
 use Rattle.raster.proofs.Words.{word-coord, words-back}
