@@ -1,4 +1,4 @@
--- Document 01, 'Opcodes of the base', and document 02, T-01, T-03 and T-06: every opcode's number, in order. The numbers are theirs, RTRN's is that of 004's alphabetical list.
+-- Document 01, 'Opcodes of the base', and document 02, T-01, T-03 and T-06: every opcode's number, in order. The numbers are theirs; those of RTRN, XYORG and XYORGV are of 004's alphabetical list.
 use Prim.Native.Nat.{ℕ}
 use mathlib.Core.Bool.{cond}
 use mathlib.Core.List.{List, [], _∷_}
