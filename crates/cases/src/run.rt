@@ -21,10 +21,10 @@ pub fn run(desk: Desk, words: &[u16], screen: &mut [u8]) -> Carried
     let env = desk.env;
     let lent = &mut screen[..bytes];
     let answer = answered(&words[..count], lent, env, desk.budget);
+    let after = with_env(desk, answer.env);
     print_answer(answer);
-    let after = answer.env;
-    print_screen(lent, after.bounds.width as usize);
-    fine(with_env(desk, after))
+    print_screen(lent, after.env.bounds.width as usize);
+    fine(after)
 }
 
 // The box's answer, with none of its promises: no proof here leans on them.

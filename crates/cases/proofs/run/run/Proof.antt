@@ -17,6 +17,9 @@ slice-aggregate-answered c = simp length-take (omega arith)
 answered-requires : tie.Need-answered-requires
 answered-requires c κs = search needs
 
+with-env-requires : tie.Need-with-env-requires
+with-env-requires c κs = search needs
+
 print-answer-requires : tie.Need-print-answer-requires
 print-answer-requires c κs = search needs
 
@@ -25,9 +28,6 @@ cast-print-screen c = search needs
 
 print-screen-requires : tie.Need-print-screen-requires
 print-screen-requires c κs = search needs
-
-with-env-requires : tie.Need-with-env-requires
-with-env-requires c κs = search needs
 
 fine-requires : tie.Need-fine-requires
 fine-requires c κs = search needs
@@ -46,10 +46,10 @@ run-spec =
     slice-aggregate-lent
     slice-aggregate-answered
     answered-requires
+    with-env-requires
     print-answer-requires
     cast-print-screen
     print-screen-requires
-    with-env-requires
     fine-requires
     same-length
     returns)
