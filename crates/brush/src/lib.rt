@@ -23,8 +23,9 @@ ghost use Rattle.circles.specs.Circle.{circle};
 ghost use Rattle.brush.specs.Brush as Held;
 ghost use Rattle.brush.specs.Brush.{Full, Radius, Near, Holds, between, shapeOf, colourOf};
 
-// Coordinates are relative to an origin, which is not held. 0 the kind: 1 a dot, 2 a line, 3 every dot, 4 a filled circle, 5 a circle's outline, 6 a dashed line, any other nothing; 1 the
-// colour; 2 and 3 a point, biased; 4 and 5 another, or 4 a radius; 6 a dashed line's pattern.
+// 0 the kind: 1 a dot, 2 a line, 3 every dot, 4 a filled circle, 5 a circle's outline, 6 a dashed line, any other nothing; 1 the
+// colour; 2 and 3 a point, biased; 4 and 5 another, or 4 a radius; 6 a dashed line's pattern. The points are relative to an origin,
+// which is not held.
 pub type Brush = [u32; 7];
 
 pub fn hold_dot(brush: &mut Brush, d: Dot, c: u8)
