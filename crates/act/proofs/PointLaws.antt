@@ -22,7 +22,7 @@ use Rattle.brush.proofs.Brushes.{radius-natural, radius-back}
 use Rattle.player.specs.declared.Upshot.{Upshot}
 use Rattle.rules.specs.Opcodes.{far, dots}
 use Rattle.rules.proofs.Ranges.{one, other, neither}
-use Rattle.rules.proofs.DoorLaws.{word}
+use Rattle.rules.proofs.DoorLaws.{logical}
 use Rattle.act.specs.declared.point.Point as Answer
 use Rattle.act.specs.declared.point.Point.the-variants as Point
 use Rattle.act.specs.declared.point.Round as Rounded
@@ -65,7 +65,7 @@ from d e is = is ∙ ap (λ p. pointBy p d) e
 
 -- ---- what a brush holds: a point that is not far has two signed words
 pub near : (p : Dot) → far p ≡ false → Logical p
-near p e = let t = not-false (inWord (p .x) && inWord (p .y)) e in (word (p .x) (one _ _ t), word (p .y) (other (inWord (p .x)) _ t))
+near p e = logical p (not-false _ e)
 
 pub near-as : {p q : Dot} → p ≡ q → Logical q → Logical p
 near-as e h = rw e h

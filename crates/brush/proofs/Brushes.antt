@@ -1,5 +1,5 @@
 -- What a brush holds, once it is stored, and what its kind says of it.
-use mathlib.Core.Path.{_≡_, refl, sym, ap, _∙_, subst⁻¹}
+use mathlib.Core.Path.{_≡_, refl, sym, ap, _∙_}
 use mathlib.Core.Bool.{Bool, true, false, cond, true≢false, _||_}
 use mathlib.Core.List.{List}
 use Prim.Native.Nat.{ℕ, _%_, _<_}
@@ -24,18 +24,11 @@ use Rattle.circles.specs.declared.circle.Circle.{Circle}
 use Rattle.circles.specs.Circle.{disc, outline, circle}
 use Rattle.circles.specs.Reaches.{circleOf}
 use Rattle.brush.specs.Brush.{kind, one, other, pattern, radius, between, shapeOf, Full, Radius, Near, Holds}
-use Rattle.raster.proofs.Words.{word-coord}
-use Rattle.raster.proofs.Coordinates.{dot-back}
+use Rattle.raster.proofs.Words.{word-back, words-biased}
 use Rattle.brush.proofs.Spelt.{spelt, one-by-one}
 
 pub byte : (c : ℕ) → c < 256 → c % 256 ≡ c
 byte c h = omega (arith, h)
-
-word-back : (d : Dot) → Word (d .x) × Word (d .y) → dotOf (spotOf d) ≡ d
-word-back d h = dot-back d (word-coord (d .x) (h .0), word-coord (d .y) (h .1))
-
-near-back : (d : Dot) → Word (d .x) × Word (d .y) → WordB (spotOf d)
-near-back d h = subst⁻¹ (λ (e : Dot). Word (e .x) × Word (e .y)) (word-back d h) h
 
 -- a radius is a natural number, and comes back whole from a call
 pub radius-small : (z : ℤ) → Radius z → natAbs z < 32768
@@ -66,7 +59,7 @@ module _ (b : List ℕ) (l : Full b) (c : ℕ) (k : c < 256) where
   dot-held d h p e =
       rw e
       (one-by-one 0 (λ b. Holds (dot d) c (set (set (set (set b 0 1) 1 c) 2 (spotOf d .x)) 3 (spotOf d .y))) b l
-      (record { full = refl; near = record { dot = λ z. near-back d h; line = λ z. absurd (omega (arith, z)); disc = λ z. absurd (omega (arith, z)); outline = λ z. absurd (omega (arith, z)); dashed = λ z. absurd (omega (arith, z)) }; shape = ap dot (word-back d h); colour = byte c k }))
+      (record { full = refl; near = record { dot = λ z. words-biased d h; line = λ z. absurd (omega (arith, z)); disc = λ z. absurd (omega (arith, z)); outline = λ z. absurd (omega (arith, z)); dashed = λ z. absurd (omega (arith, z)) }; shape = ap dot (word-back d h); colour = byte c k }))
 
   -- a line's ends
   module _ (m : Line) (h : Word (m .from .x) × Word (m .from .y) × Word (m .to .x) × Word (m .to .y)) where
@@ -74,7 +67,7 @@ module _ (b : List ℕ) (l : Full b) (c : ℕ) (k : c < 256) where
     same-line = λ i. record { from = word-back (m .from) (h .0, h .1) i; to = word-back (m .to) (h .2, h .3) i }
 
     ends : WordB (spotOf (m .from)) × WordB (spotOf (m .to))
-    ends = (near-back (m .from) (h .0, h .1), near-back (m .to) (h .2, h .3))
+    ends = (words-biased (m .from) (h .0, h .1), words-biased (m .to) (h .2, h .3))
 
     pub line-held : Holds (line m) c (between 2 c (spotOf (m .from)) (spotOf (m .to)) b)
     unfolding shapeOf
@@ -111,7 +104,7 @@ module _ (b : List ℕ) (l : Full b) (c : ℕ) (k : c < 256) where
       same = λ i. record { centre = word-back (m .centre) (h .0, h .1) i; radius = radius-natural (m .radius) (h .2) i }
 
       asked : WordB (spotOf (m .centre)) × (natAbs (m .radius) < 32768)
-      asked = (near-back (m .centre) (h .0, h .1), radius-small (m .radius) (h .2))
+      asked = (words-biased (m .centre) (h .0, h .1), radius-small (m .radius) (h .2))
 
       by : (t : Bool) → Holds (circle t m) c (roundly t (spotOf (m .centre)) (natAbs (m .radius)) (spelt 0 7 b))
       by true =

@@ -1,5 +1,5 @@
 -- What follows of circles: radius 0 is one dot, filled and as outline; an outline's dots are the filled circle's; and two small pictures, by computation.
-use mathlib.Core.Path.{_≡_, refl, sym, ap, ap₂, _∙_, subst}
+use mathlib.Core.Path.{_≡_, refl, sym, ap, ap₂, _∙_, subst, subst₂}
 use mathlib.Core.Bool.{Bool, not, _&&_, _||_}
 use mathlib.Core.List.{[], _∷_}
 use Prim.Native.Nat.{ℕ, _+_, _*_, _≤_}
@@ -10,11 +10,11 @@ use lib.Dec.{T, leb, leb→le}
 use lib.ListN.{replicate}
 use Rattle.raster.specs.declared.dots.Dot.{Dot}
 use Rattle.raster.specs.declared.frame.Frame.{Frame}
-use Rattle.raster.specs.Shapes.{topLeft, eqZ, gap, dot}
+use Rattle.raster.specs.Shapes.{topLeft, gap, dot}
 use Rattle.raster.specs.Frame.{drawable}
 use Rattle.raster.specs.Paint.{recolourFrom, paint}
-use Rattle.raster.proofs.Tests.{same, both, left, right, and-true}
-use Rattle.raster.proofs.Stores.{eqZ→eq, eqZ-refl}
+use Rattle.raster.proofs.Tests.{same, left, and-true}
+use Rattle.raster.proofs.Points.{dot-self, dot-same}
 use Rattle.circles.specs.declared.circle.Circle.{Circle}
 use Rattle.circles.specs.Circle.{disc, outline}
 use Rattle.circles.specs.Reaches.{reach}
@@ -37,14 +37,14 @@ none a b h = (let p : a ≤ 0 = le-square a 0 (omega arith) in omega arith, let 
 
 reach-zero : (c : Dot) (x y : ℤ) → reach 0 (gap (c .x) x) (gap (c .y) y) ≡ dot c x y
 reach-zero c x y =
-    same (reach 0 (gap (c .x) x) (gap (c .y) y)) (eqZ (c .x) x && eqZ (c .y) y)
+    same (reach 0 (gap (c .x) x) (gap (c .y) y)) (dot c x y)
     (λ t.
     let h = none (gap (c .x) x) (gap (c .y) y) (leb→le (gap (c .x) x * gap (c .x) x + gap (c .y) y * gap (c .y) y) (0 * 0) t) in
-    both (eqZ (c .x) x) (eqZ (c .y) y) (subst (λ (z : ℤ). T (eqZ (c .x) z)) (no-gap (c .x) x (h .0)) (eqZ-refl (c .x)))
-    (subst (λ (z : ℤ). T (eqZ (c .y) z)) (no-gap (c .y) y (h .1)) (eqZ-refl (c .y))))
+    subst₂ (λ (u v : ℤ). T (dot c u v)) (no-gap (c .x) x (h .0)) (no-gap (c .y) y (h .1)) (subst T (sym (dot-self c)) tt))
     (λ t.
-    let a = gap-same (c .x) x (eqZ→eq (c .x) x (left (eqZ (c .x) x) (eqZ (c .y) y) t)) in
-    let b = gap-same (c .y) y (eqZ→eq (c .y) y (right (eqZ (c .x) x) (eqZ (c .y) y) t)) in
+    let e = dot-same c x y t in
+    let a = gap-same (c .x) x (ap (λ (d : Dot). d .x) e) in
+    let b = gap-same (c .y) y (ap (λ (d : Dot). d .y) e) in
     subst (λ (n : ℕ). T (leb n (0 * 0))) (sym (ap₂ (λ (u v : ℕ). u * u + v * v) a b)) tt)
 
 pub one-dot : (c : Dot) (x y : ℤ) → disc (record { centre = c; radius = pos 0 }) x y ≡ dot c x y

@@ -32,10 +32,10 @@ module _ (o : Dot) (l : Line) where
   pub long-moved : long (lineBy o l) ≡ long l
   long-moved = ap₂ (λ (a b : ℕ). max a b) (gap-shift (l .from .x) (l .to .x) (o .x)) (gap-shift (l .from .y) (l .to .y) (o .y))
 
-  pub flat-moved : flat (lineBy o l) ≡ flat l
+  flat-moved : flat (lineBy o l) ≡ flat l
   flat-moved = ap₂ (λ (a b : ℕ). leb a b) (gap-shift (l .from .y) (l .to .y) (o .y)) (gap-shift (l .from .x) (l .to .x) (o .x))
 
-  pub rising-moved : rising (lineBy o l) ≡ rising l
+  rising-moved : rising (lineBy o l) ≡ rising l
   rising-moved = λ i. cond (flat-moved i) (le-shift (l .from .x) (l .to .x) (o .x) i) (le-shift (l .from .y) (l .to .y) (o .y) i)
 
   start-moved : start (lineBy o l) ≡ shifted (start l) o

@@ -64,7 +64,7 @@ rises (negsuc a) (pos b) = refl
 rises (negsuc a) (negsuc b) = sym (sign (suc a) (suc b) ∙ leb·suc-suc b a)
 
 -- ---- up and down again, and down and up
-pub down-biased : (z : ℤ) → Coord z → subℕ (biased z) bias ≡ z
+down-biased : (z : ℤ) → Coord z → subℕ (biased z) bias ≡ z
 down-biased (pos n) h = sub-ge (n + bias) bias (omega arith) ∙ ap pos (omega arith)
 down-biased (negsuc n) h = let l = h .small in sub-lt (bias - suc n) bias (omega arith) ∙ ap negsuc (omega arith)
 

@@ -5,28 +5,19 @@ use mathlib.Core.List.{List}
 use Prim.Native.Nat.{ℕ, zero, suc, _+_, _*_, _/_, _%_, _<_}
 use lib.IntN.{ℤ, pos, negsuc, natAbs}
 use lib.Signed.{leZ, ltZ}
-use lib.Dec.{T, ltb→lt, eqb→eq, eqb-refl}
+use lib.Dec.{T, ltb→lt}
 use lib.ListN.{set}
 use Rattle.raster.specs.declared.dots.Dot.{Dot}
 use Rattle.raster.specs.declared.frame.Frame.{Frame}
-use Rattle.raster.specs.Shapes.{eqZ, dot, someBelow}
+use Rattle.raster.specs.Shapes.{dot, someBelow}
 use Rattle.raster.specs.Frame.{drawable}
 use Rattle.raster.specs.Paint.{recolour, hit, paint}
 use Rattle.raster.specs.Stores.{store, storeFirst}
 use Rattle.raster.proofs.Tests.{left, right, both, four}
+use Rattle.raster.proofs.Points.{dot-self, dot-same}
 use Rattle.raster.proofs.Recolour.{one, none}
 use Rattle.raster.proofs.Pixels.{column, row, byte}
 use Rattle.raster.proofs.Paintings.{drawable-pixel, union, nothing}
-
-pub eqZ→eq : (a b : ℤ) → T (eqZ a b) → a ≡ b
-eqZ→eq (pos a) (pos b) t = ap pos (eqb→eq a b t)
-eqZ→eq (pos a) (negsuc b) t = absurd t
-eqZ→eq (negsuc a) (pos b) t = absurd t
-eqZ→eq (negsuc a) (negsuc b) t = ap negsuc (eqb→eq a b t)
-
-pub eqZ-refl : (z : ℤ) → T (eqZ z z)
-eqZ-refl (pos n) = eqb-refl n
-eqZ-refl (negsuc n) = eqb-refl n
 
 -- a drawable point has a column and a row
 record Placed (w : ℕ) (x y : ℤ) : Type 0 where
@@ -51,10 +42,8 @@ module _ (f : Frame) (c : ℕ) (d : Dot) (s : List ℕ) where
   -- where the dot of a byte is
   at-byte : (k : ℕ) → T (hit f (dot d) k) → (d .x ≡ pos (k % w)) × (d .y ≡ pos (k / w))
   at-byte k u =
-      let q = right (drawable f (pos (k % w)) (pos (k / w))) (dot d (pos (k % w)) (pos (k / w))) u in (
-        eqZ→eq (d .x) (pos (k % w)) (left (eqZ (d .x) (pos (k % w))) (eqZ (d .y) (pos (k / w))) q),
-        eqZ→eq (d .y) (pos (k / w)) (right (eqZ (d .x) (pos (k % w))) (eqZ (d .y) (pos (k / w))) q),
-      )
+      let e = dot-same d (pos (k % w)) (pos (k / w)) (right (drawable f (pos (k % w)) (pos (k / w))) (dot d (pos (k % w)) (pos (k / w))) u) in
+      (ap (λ (p : Dot). p .x) e, ap (λ (p : Dot). p .y) e)
 
   dot-in : T (drawable f (d .x) (d .y)) → set s (natAbs (d .y) * w + natAbs (d .x)) c ≡ recolour (hit f (dot d)) c s
   dot-in t =
@@ -64,7 +53,7 @@ module _ (f : Frame) (c : ℕ) (d : Dot) (s : List ℕ) where
       one (hit f (dot d)) c s (y * w + x)
       (subst₂ (λ (i j : ℕ). T (drawable f (pos i) (pos j) && dot d (pos i) (pos j))) (sym (column w x y (p .narrow))) (sym (row w x y (p .narrow)))
       (subst₂ (λ (u v : ℤ). T (drawable f u v && dot d u v)) (p .column-is) (p .row-is)
-      (both (drawable f (d .x) (d .y)) (dot d (d .x) (d .y)) t (both (eqZ (d .x) (d .x)) (eqZ (d .y) (d .y)) (eqZ-refl (d .x)) (eqZ-refl (d .y))))))
+      (both (drawable f (d .x) (d .y)) (dot d (d .x) (d .y)) t (subst T (sym (dot-self d)) tt))))
       (λ k l u.
       let e = at-byte k u in
       sym (byte w k) ∙ ap₂ (λ (i j : ℕ). i * w + j) (sym (ap natAbs (e .1))) (sym (ap natAbs (e .0))))

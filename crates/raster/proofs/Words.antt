@@ -8,8 +8,8 @@ use Rattle.raster.specs.declared.dots.Dot.{Dot}
 use Rattle.raster.specs.declared.biased.Spot.{Spot}
 use Rattle.raster.specs.Shapes.{shifted}
 use Rattle.raster.specs.Frame.{Word, Coord}
-use Rattle.raster.specs.Biased.{bias, biased, dotOf, WordB, NearB, shiftedB}
-use Rattle.raster.proofs.Coordinates.{sub-ge, sub-lt, down-biased, biased-down, plus, minus}
+use Rattle.raster.specs.Biased.{bias, biased, spotOf, dotOf, WordB, NearB, shiftedB}
+use Rattle.raster.proofs.Coordinates.{sub-ge, sub-lt, biased-down, dot-back, plus, minus}
 
 pub word-coord : (z : ℤ) → Word z → Coord z
 word-coord z h = record { small = omega (arith, h .small) }
@@ -27,8 +27,11 @@ sum-biased n z h k =
     (omega (arith, a, b), omega (arith, a, b))
 
 -- a dot of signed words, biased and down again
-pub words-back : (x y : ℤ) → Word x → Word y → WordB (record { x = biased x; y = biased y })
-words-back x y h k = (rw (down-biased x (word-coord x h)) h, rw (down-biased y (word-coord y k)) k)
+pub word-back : (d : Dot) → Word (d .x) × Word (d .y) → dotOf (spotOf d) ≡ d
+word-back d h = dot-back d (word-coord (d .x) (h .0), word-coord (d .y) (h .1))
+
+pub words-biased : (d : Dot) → Word (d .x) × Word (d .y) → WordB (spotOf d)
+words-biased d h = subst⁻¹ (λ (e : Dot). Word (e .x) × Word (e .y)) (word-back d h) h
 
 -- ---- the sum of two
 down-coord : (m : ℕ) → m < 131072 → Coord (subℕ m bias)

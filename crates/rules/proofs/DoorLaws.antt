@@ -33,7 +33,7 @@ unfolding door
 opened q e bytes h = Doors.opened q (e .bounds) (fits e) bytes h
 
 -- ---- what is let in may be drawn on
-pub word : (z : ℤ) → inWord z ≡ true → Word z
+word : (z : ℤ) → inWord z ≡ true → Word z
 word z h = record { small = omega (arith, within-mag z h) }
 
 pub logical : (p : Dot) → dotFits p ≡ true → Word (p .x) × Word (p .y)

@@ -30,8 +30,8 @@ near p h = not-false (dotFits p) h
 
 -- ---- one field changed, and in range
 module _ {b : Bounds} (e : Env) (h : Fits b e) where
-  placed : (p : Dot) → far p ≡ false → Fits b (moved p e)
-  placed p f = (h .0, record { position = near p f; origin = h .1 .origin; mode = h .1 .mode; window = h .1 .window }, h .2, h .3, h .4)
+  at-position : (p : Dot) → far p ≡ false → Fits b (moved p e)
+  at-position p f = (h .0, record { position = near p f; origin = h .1 .origin; mode = h .1 .mode; window = h .1 .window }, h .2, h .3, h .4)
 
   at-origin : (p : Dot) → far p ≡ false → Fits b (based p e)
   at-origin p f = (h .0, record { position = h .1 .position; origin = near p f; mode = h .1 .mode; window = h .1 .window }, h .2, h .3, h .4)
@@ -136,14 +136,14 @@ module _ (o : Operands) (n : ℕ) (few : n ≤ 65536) where
       in-window e h _ (both _ _ p q)
   rule-keeps Op.Colour e h f = h
   rule-keeps Op.Pattern e h f = h
-  rule-keeps Op.MoveTo e h f = placed e h (point (o .a) (o .b)) (f .1)
-  rule-keeps Op.MoveBy e h f = placed e h (shifted (e .pen .position) (point (o .a) (o .b))) (neither (far (point (o .a) (o .b))) _ (f .1) .1)
+  rule-keeps Op.MoveTo e h f = at-position e h (point (o .a) (o .b)) (f .1)
+  rule-keeps Op.MoveBy e h f = at-position e h (shifted (e .pen .position) (point (o .a) (o .b))) (neither (far (point (o .a) (o .b))) _ (f .1) .1)
   rule-keeps Op.Origin e h f = at-origin e h (point (o .a) (o .b)) (f .1)
   rule-keeps Op.Pixel e h f = h
   rule-keeps Op.PixelColour e h f = h
   rule-keeps Op.Line e h f = h
-  rule-keeps Op.LineTo e h f = placed e h (point (o .b) (o .c)) (f .1)
-  rule-keeps Op.LineBy e h f = placed e h (shifted (e .pen .position) (point (o .b) (o .c))) (neither (far (point (o .b) (o .c))) _ (f .1) .1)
+  rule-keeps Op.LineTo e h f = at-position e h (point (o .b) (o .c)) (f .1)
+  rule-keeps Op.LineBy e h f = at-position e h (shifted (e .pen .position) (point (o .b) (o .c))) (neither (far (point (o .b) (o .c))) _ (f .1) .1)
   rule-keeps Op.Disc e h f = h
   rule-keeps Op.Outline e h f = h
   rule-keeps Op.Clear e h f = h

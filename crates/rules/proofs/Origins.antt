@@ -17,8 +17,8 @@ use Rattle.rules.specs.Environment.{Env, based, pushed, frame}
 use Rattle.rules.specs.Opcodes.{Rule, rule, point, taken, absolute, relative, reach}
 
 -- ---- the same op from another origin
-abbrev pub slid : Dot → Rule → Rule
-slid p r = record { breaks = r .breaks; env = based p (r .env); shape = r .shape; colour = r .colour }
+abbrev pub withOrigin : Dot → Rule → Rule
+withOrigin p r = record { breaks = r .breaks; env = based p (r .env); shape = r .shape; colour = r .colour }
 
 other-env : (r : Rule) {e : Env} → r .env ≡ e → r ≡ record { breaks = r .breaks; env = e; shape = r .shape; colour = r .colour }
 other-env r q = λ i. record { breaks = r .breaks; env = q i; shape = r .shape; colour = r .colour }
@@ -32,7 +32,7 @@ jumped true t p e = reached t p e
 jumped false t p e = refl
 
 -- every op but XYORG breaks the same, leaves the same environment but for the origin, which stays, and says the same shape and colour
-pub slides : (op : Op.Op) → (op ≡ Op.Origin → ⊥) → (o : Operands) (n : ℕ) (p : Dot) (e : Env) → rule op o n (based p e) ≡ slid p (rule op o n e)
+pub slides : (op : Op.Op) → (op ≡ Op.Origin → ⊥) → (o : Operands) (n : ℕ) (p : Dot) (e : Env) → rule op o n (based p e) ≡ withOrigin p (rule op o n e)
 slides Op.Noop h o n p e = refl
 slides Op.End h o n p e = refl
 slides Op.Load h o n p e = refl

@@ -11,19 +11,16 @@ use Rattle.player.specs.Run.{Answer, answer}
 use Rattle.player.specs.Hosted.{Request, Hosted, answered}
 use Rattle.player.specs.Door.{doorOf}
 pub use Rattle.player.specs.Door.{between, sizeFits, paneFits}
-use Rattle.rules.specs.Types.{WordIndex, Dot, Window, State, Running, Ended, Stopped}
+use Rattle.rules.specs.Types.{WordIndex, Window, State, Running, Ended, Stopped}
 use Rattle.rules.specs.declared.environment.Env as Held
 use Rattle.rules.specs.declared.answer.Answer as Came
 use Rattle.rules.specs.Environment.{Pen, Flow, Env, held}
+pub use Rattle.rules.specs.Opcodes.{dotFits}
 use Rattle.rules.specs.Step.{afgis}
 
 -- ---- ranges: those of size and pane, and the order of 10 to 14, are every player's
 
--- two signed words
-abbrev pub dotFits : Dot → Bool
-dotFits p = inWord p.x && inWord p.y
-
--- four
+-- four signed words
 abbrev pub windowFits : Window → Bool
 windowFits w = inWord w.x0 && inWord w.y0 && (inWord w.x1 && inWord w.y1)
 

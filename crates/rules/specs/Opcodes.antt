@@ -82,9 +82,13 @@ calls t e = refuse 27 (missing t) (refuse 28 (leb 16 (length (e .flow .stack))) 
 abbrev pub point : ℕ → ℕ → Dot
 point a b = record { x = signed32 a; y = signed32 b }
 
+-- two signed words
+abbrev pub dotFits : Dot → Bool
+dotFits p = inWord p.x && inWord p.y
+
 -- a coordinate is outside -32,768 to 32,767
 abbrev pub far : Dot → Bool
-far p = not (inWord p.x && inWord p.y)
+far p = not (dotFits p)
 
 abbrev pub window : Dot → Dot → Window
 window p q = record { x0 = p.x; y0 = p.y; x1 = q.x; y1 = q.y }

@@ -4,7 +4,7 @@ use mathlib.Core.Bool.{Bool}
 use borrow.Author.Tests.{eq-eqb, ne-eqb}
 use Rattle.raster.specs.declared.rect.Rect.{Rect}
 use Rattle.raster.specs.Rects.{rectFrom, shiftedRect, clipBy}
-use Rattle.raster.proofs.Words.{word-coord, words-back}
+use Rattle.raster.proofs.Words.{word-coord, words-biased}
 use Rattle.raster.proofs.rect.clip_rect.Statement.{statement}
 use Rattle.raster.proofs.rect.clip_rect.Tie as tie
 
@@ -32,14 +32,16 @@ returns-2 c =
 shift-requires : tie.Need-shift-requires
 shift-requires c κs =
     let w = c .before .before in
+    let v = w .before .args .f .window in
     let h = w .before .pre in
-    (rw (w .window-rect .ensures) (words-back _ _ (h .window .0) (h .window .1)), h .origin .0, h .origin .1)
+    (rw (w .window-rect .ensures) (words-biased (record { x = v .x0; y = v .y0 }) (h .window .0, h .window .1)), h .origin .0, h .origin .1)
 
 shift-requires-2 : tie.Need-shift-requires-2
 shift-requires-2 c κs =
     let w = c .before .before .before in
+    let v = w .before .args .f .window in
     let h = w .before .pre in
-    (rw (w .window-rect .ensures) (words-back _ _ (h .window .2) (h .window .3)), h .origin .0, h .origin .1)
+    (rw (w .window-rect .ensures) (words-biased (record { x = v .x1; y = v .y1 }) (h .window .2, h .window .3)), h .origin .0, h .origin .1)
 
 pub clip-rect-spec : {M : Type 1} → statement M
 clip-rect-spec = tie.close (tie.spec window-rect-requires returns shift-requires shift-requires-2 returns-2)
