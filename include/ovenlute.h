@@ -11,7 +11,7 @@ extern "C" {
 #endif
 
 /* Raised with every change of a struct below. An environment that was kept from another version is to be made anew. */
-#define OVENLUTE_VERSION 4
+#define OVENLUTE_VERSION 5
 
 /* The limits. */
 #define OVENLUTE_MOST_WORDS 65536     /* of a list */
@@ -19,12 +19,15 @@ extern "C" {
 #define OVENLUTE_MOST_SIDE 2048       /* of a screen, across and down */
 #define OVENLUTE_VARIABLES 64
 #define OVENLUTE_RETURNS 16           /* the most that are stacked */
+#define OVENLUTE_REPEATS 8            /* the most that are open */
+#define OVENLUTE_MOST_PASSES 1000     /* of a repeat */
 #define OVENLUTE_MOST_DOTS 65536      /* of a line: the largest length that ovenlute_lit takes */
 
 /* The numbers that come back; each comment is what ovenlute_text says of it. 10 to 14 are of a call: nothing is done, and
    environment and screen are as they were. 20 to 29 are of an opcode: it was not carried out and changed nothing, those before
    it stand, and the environment is stopped for good: it answers this number again, with its place. Only ovenlute_lit's 25 is of
-   its call and of no opcode. */
+   its call and of no opcode, and ovenlute_check, which carries nothing out, tells 20 to 29 of what it reads. 30 and 31 are
+   ovenlute_check's alone. */
 enum ovenlute_number {
     OVENLUTE_ENDED = 0,          /* the list has ended */
     OVENLUTE_BUDGET = 1,         /* the budget is used up, the list still runs */
@@ -37,12 +40,14 @@ enum ovenlute_number {
     OVENLUTE_NO_OPCODE = 21,     /* no opcode */
     OVENLUTE_CUT = 22,           /* the list ends inside the opcode */
     OVENLUTE_NO_VARIABLE = 23,   /* a variable above 63 */
-    OVENLUTE_NOT_ALLOWED = 24,   /* a mode, type or condition that is not allowed */
+    OVENLUTE_NOT_ALLOWED = 24,   /* a mode, type, condition or count that is not allowed */
     OVENLUTE_OUT_OF_RANGE = 25,  /* a coordinate or offset not -32,768 to 32,767, a radius not 0 to 32,767, a length above 65,536 */
     OVENLUTE_ZERO_DIVISOR = 26,  /* the divisor is zero */
     OVENLUTE_BAD_TARGET = 27,    /* a target that is not allowed */
-    OVENLUTE_STACK_FULL = 28,    /* a call with 16 returns stacked */
-    OVENLUTE_STACK_EMPTY = 29    /* a return with none stacked */
+    OVENLUTE_STACK_FULL = 28,    /* a call with 16 returns stacked, or a repeat with eight open */
+    OVENLUTE_STACK_EMPTY = 29,   /* a return with none stacked, or the end of a repeat with none open */
+    OVENLUTE_END_INSIDE = 30,    /* an end of the list inside a repeat */
+    OVENLUTE_MANY_STEPS = 31     /* more than 1,000,000 steps are needed */
 };
 
 /* The state of an environment: one of these, or the number that it was stopped with, 20 to 29. */
@@ -83,11 +88,19 @@ struct ovenlute_registers {
     uint8_t state;          /* enum ovenlute_state, or 20 to 29 */
 };
 
+/* An open repeat. */
+struct ovenlute_repeat {
+    uint32_t start;         /* where its block begins, behind the RPT: a word index, 0 to 65,536 */
+    uint32_t left;          /* passes left, the one that runs among them: 1 to 1,000 */
+};
+
 struct ovenlute_env {
     struct ovenlute_bounds bounds;
     struct ovenlute_registers registers;
     int32_t variables[OVENLUTE_VARIABLES];
     uint32_t stack[OVENLUTE_RETURNS];     /* word indices; past depth nothing counts */
+    uint32_t nesting;                     /* repeats open, 0 to 8 */
+    struct ovenlute_repeat repeats[OVENLUTE_REPEATS];  /* the outermost first; past nesting nothing counts */
 };
 
 struct ovenlute_made {
@@ -101,6 +114,12 @@ struct ovenlute_done {
     uint32_t steps;         /* opcodes carried out in this call */
 };
 
+struct ovenlute_checked {
+    uint8_t number;
+    uint32_t place;         /* 20 to 30: the index of the word at fault; else 0 */
+    uint32_t steps;         /* 0: the opcodes that a run carries out, its EODL among them, 1 to 1,000,000; else 0 */
+};
+
 struct ovenlute_lit_dots {
     uint8_t number;
     uint32_t count;         /* how many dots light up */
@@ -111,11 +130,11 @@ struct ovenlute_words {
     char text[95];          /* the words and zeros behind them, at least one: a C string */
 };
 
-/* Any of the four may be called from several threads at once on different environments and screens: nothing is kept between
+/* Any of the five may be called from several threads at once on different environments and screens: nothing is kept between
    calls but what is lent. Lists that share a screen take turns. None allocates, and none needs more than 2 KiB of stack. */
 
 /* A fresh environment for a screen of that size and a pane in it: variables 0, position (0, 0), origin (0, 0), colour 15, clip
-   mode 0, window the whole screen, pattern all ones, counter 0, running. Numbers: 0; 10 for a bad size; 12 for a bad pane, size
+   mode 0, window the whole screen, pattern all ones, counter 0, no repeat open, running. Numbers: 0; 10 for a bad size; 12 for a bad pane, size
    first. With 10 and 12 env is all zeros, the pattern too, and a run over it answers 10. */
 struct ovenlute_made ovenlute_fresh(uint32_t width, uint32_t height, struct ovenlute_pane pane);
 
@@ -132,6 +151,18 @@ struct ovenlute_made ovenlute_fresh(uint32_t width, uint32_t height, struct oven
    also where the call is refused, then with what it was. With length 0 a list or a screen may be NULL; env may not. */
 struct ovenlute_done ovenlute_run(const uint16_t *list, size_t words, uint8_t *screen, size_t bytes,
                                   struct ovenlute_env *env, uint32_t budget);
+
+/* Whether a list surely finishes, and in how many steps: one without jumps, calls and RTRN, whose only loops are the blocks between
+   RPT and ERPT, at most eight in one another, each repeated 1 to 1,000 times, and whose EODL stands outside all blocks. Nothing is
+   played and no environment is asked for. Words behind the EODL are not read.
+   - 0: a run of the list from a fresh environment with a budget of `steps`, if it is not refused with 10 to 12, ends with 0 in
+     exactly that many steps, or is stopped in fewer with one of 23 to 26, which depend on what variables hold.
+   - Else the first fault in the list's order, with its place, and steps 0: 13; 20 the list ends without an EODL; 21 no opcode, or
+     one that is foreign to such lists: a jump, a call, RTRN; 22 the list ends inside the opcode; 24 a count that is not 1 to 1,000;
+     28 a ninth block inside eight; 29 an ERPT outside all blocks; 30 an EODL inside a block. 31, with place 0, where all is sound
+     but more than 1,000,000 steps are needed.
+   - 20, 22, 24, 28 and 29 are what a run from a fresh environment answers there, unless one of 23 to 26 stops it sooner. */
+struct ovenlute_checked ovenlute_check(const uint16_t *list, size_t words);
 
 /* How many dots of a dashed line light up, clipping aside, from its length in dots and its pattern alone: whole runs of 32 dots
    times the ones in the pattern, plus the ones among the leftover low bits. Numbers: 0; 25 for a length above 65,536, with count 0.

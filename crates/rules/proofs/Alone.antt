@@ -17,8 +17,8 @@ use Rattle.rules.specs.Op as Op
 use Rattle.rules.specs.Meaning.{Meaning, Unknown, Known, meaning}
 use Rattle.rules.specs.Table.{formOf}
 use Rattle.rules.specs.Operands.{at}
-use Rattle.rules.specs.Environment.{Env, pushed}
-use Rattle.rules.specs.Opcodes.{Rule, rule, taken, absolute, relative, reach}
+use Rattle.rules.specs.Environment.{Env, pushed, closed, innermost}
+use Rattle.rules.specs.Opcodes.{Rule, rule, taken, absolute, relative, reach, another}
 use Rattle.rules.specs.Step.{check, unknown, cut, misnamed, ruled, carried, judged, step, afgis}
 use Rattle.rules.specs.Door.{machine}
 
@@ -33,6 +33,10 @@ reached Refused e = refl
 jumped : (taken : Bool) (t : Target) (e : Env) → cond taken (reach t e) e .bounds ≡ e .bounds
 jumped true t e = reached t e
 jumped false t e = refl
+
+passed : (t : Bool) (x y e : Env) → x .bounds ≡ e .bounds → y .bounds ≡ e .bounds → cond t x y .bounds ≡ e .bounds
+passed true x y e h k = h
+passed false x y e h k = k
 
 rule-keeps : (op : Op.Op) (o : Operands) (n : ℕ) (e : Env) → rule op o n e .env .bounds ≡ e .bounds
 rule-keeps Op.Noop o n e = refl
@@ -52,6 +56,8 @@ rule-keeps Op.JumpBy o n e = jumped (taken (o .a) e) (relative (o .b) e n) e
 rule-keeps Op.Call o n e = reached (absolute (o .a) n) (pushed (e .flow .counter) e)
 rule-keeps Op.CallBy o n e = reached (relative (o .a) e n) (pushed (e .flow .counter) e)
 rule-keeps Op.Return o n e = refl
+rule-keeps Op.Repeat o n e = refl
+rule-keeps Op.EndRepeat o n e = passed (another (innermost e)) _ (closed e) e refl refl
 rule-keeps Op.ClipMode o n e = refl
 rule-keeps Op.ClipWindow o n e = refl
 rule-keeps Op.Colour o n e = refl

@@ -1,4 +1,4 @@
--- Document 01, 'Cases, whole answers': the starred cases with their variants, as one table of whole answers; some edges; the places of 23; the seven conditions; and document 02's circles, dashed lines and origins.
+-- Document 01, 'Cases, whole answers': the starred cases with their variants, as one table of whole answers; some edges; the places of 23; the seven conditions; and document 02's circles, dashed lines, origins and repeats.
 use Prim.Native.Nat.{ℕ, _+_, _-_, _*_, _^_}
 use mathlib.Core.Path.{_≡_, refl}
 use mathlib.Core.List.{List, [], _∷_, map}
@@ -17,10 +17,10 @@ use Rattle.player.specs.Player.{fault, verdict}
 use Rattle.player.specs.Run.{Answer, answer, runs}
 use Rattle.player.specs.Hosted.{answered}
 use Rattle.player.specs.Door.{doorOf}
-use Rattle.rules.specs.Types.{Bounds, Running, Ended, Stopped}
+use Rattle.rules.specs.Types.{Bounds, Repeat, Running, Ended, Stopped}
 use Rattle.rules.specs.Table.{formOf}
 use Rattle.rules.specs.Conditions.{allowed, met}
-use Rattle.rules.specs.Environment.{Env, env, start, put, moved, based, patterned, clipped, windowed, goto, stacked, stated, compared}
+use Rattle.rules.specs.Environment.{Env, env, start, put, moved, based, patterned, clipped, windowed, goto, stacked, repeat, repeating, stated, compared}
 use Rattle.rules.specs.Step.{carried, step}
 use Rattle.rules.specs.Door.{door, whole}
 use Rattle.rules.specs.Fresh.{fresh}
@@ -310,6 +310,41 @@ origins =
     stops (0x0066 ∷ 0x8000 ∷ 0x0000 ∷ 0x0001 ∷ 0x0101 ∷ 0x0000 ∷ []) 25 4 (at 4 (var 1 32768 e₀)) 1 ∷  -- XYORGV, y 32,768
     []
 
+-- ---- repeats
+
+-- the open repeat whose block begins at word i
+abbrev pub openAt : ℕ → ℕ → Repeat
+openAt i n = repeat (record { 0 = i }) n
+
+-- RPT of n passes, and a list behind it
+abbrev pub times : ℕ → List ℕ → List ℕ
+times n w = 0x00B7 ∷ n ∷ w
+
+-- INCV V0
+abbrev pub counting : List ℕ → List ℕ
+counting w = 0x005D ∷ 0x0000 ∷ w
+
+-- nine blocks in one another, of one pass each, and the eight that are opened
+abbrev pub nine : List ℕ
+nine = times 1 (times 1 (times 1 (times 1 (times 1 (times 1 (times 1 (times 1 (times 1 []))))))))
+
+abbrev pub eight : List Repeat
+eight = openAt 2 1 ∷ openAt 4 1 ∷ openAt 6 1 ∷ openAt 8 1 ∷ openAt 10 1 ∷ openAt 12 1 ∷ openAt 14 1 ∷ openAt 16 1 ∷ []
+
+abbrev pub repeats : List Case
+repeats =
+    case (times 2 (counting (0x004F ∷ 0x0001 ∷ []))) 0 (ended 6 (var 0 2 e₀)) 6 ∷  -- RPT once, INCV and ERPT once a pass, EODL
+    case (times 3 (times 2 (counting (0x004F ∷ 0x004F ∷ 0x0001 ∷ [])))) 0 (ended 9 (var 0 6 e₀)) 20 ∷  -- a block in a block
+    within 4 (case (times 3 (times 2 (counting (0x004F ∷ 0x004F ∷ 0x0001 ∷ [])))) 1 (at 4 (repeating (openAt 2 3 ∷ openAt 4 1 ∷ []) (var 0 1 e₀))) 4) ∷  -- cut behind the inner ERPT
+    within 1 (case (times 1000 []) 1 (at 2 (repeating (openAt 2 1000 ∷ []) e₀)) 1) ∷  -- 1,000 passes
+    stops (times 0 []) 24 0 e₀ 0 ∷
+    stops (times 1001 []) 24 0 e₀ 0 ∷
+    stops (times 0xFFFF []) 24 0 e₀ 0 ∷  -- -1
+    stops (0x00B7 ∷ []) 22 0 e₀ 0 ∷
+    stops (0x004F ∷ []) 29 0 e₀ 0 ∷
+    stops nine 28 16 (at 16 (repeating eight e₀)) 8 ∷
+    []
+
 abbrev pub played : Case → Answer Env
 played c = whole c.words blank c.env c.budget
 
@@ -341,10 +376,14 @@ pub slid : map played origins ≡ map (λ (c : Case). c.want) origins
 unfolding signed32 signed16 low32 inWord recolourFrom someBelow drawable paint line side formOf carried step doorOf door answered runs
 slid = refl
 
+pub repeated : map played repeats ≡ map (λ (c : Case). c.want) repeats
+unfolding signed32 signed16 low32 sum32 inWord recolourFrom someBelow drawable paint formOf carried step doorOf door answered runs
+repeated = refl
+
 -- the fresh environment, field by field
 pub fresh-fields : e₀
     ≡ env (bounds 0) (replicate 64 0)
     (record { position = record { x = pos 0; y = pos 0 }; origin = record { x = pos 0; y = pos 0 }; colour = 15; pattern = 0xFFFFFFFF; mode = 0; window = record { x0 = pos 0; y0 = pos 0; x1 = pos 4; y1 = pos 2 } })
-    (record { counter = start; stack = []; first = 0; second = 0 })
+    (record { counter = start; stack = []; repeats = []; first = 0; second = 0 })
     Running
 fresh-fields = refl

@@ -90,7 +90,7 @@ fresh-fits b s p =
     joined (fresh b) (
       p,
       record { position = top-left; origin = top-left; mode = refl; window = both _ _ top-left (both _ _ w h) },
-      record { counter = refl; depth = refl; returns = refl },
+      record { counter = refl; depth = refl; returns = refl; nesting = refl; blocks = refl },
       refl,
       refl,
     )

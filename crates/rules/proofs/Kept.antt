@@ -1,5 +1,5 @@
 -- What the door lets in, every opcode leaves in range, carried out or refused.
-use Prim.Native.Nat.{ℕ, zero, suc, _+_, _-_, _/_, _%_, _≤_}
+use Prim.Native.Nat.{ℕ, zero, suc, _+_, _-_, _/_, _%_, _≤_, _<_}
 use mathlib.Core.Path.{_≡_, refl}
 use mathlib.Core.Bool.{Bool, true, false, cond}
 use mathlib.Core.List.{List, [], _∷_, _++_}
@@ -7,21 +7,21 @@ use native.Mathlib.Omega.{arith}
 use lib.ListN.{length, take, getD, length-append, length-take}
 use lib.Dec.{ltb, leb, eqb}
 use lib.IntN.{ℤ, pos, negsuc, _+ℤ_}
-use borrow.Author.Tests.{not-false, ltb-true, ltb-false, leb-true, leb-false, le-leb}
+use borrow.Author.Tests.{not-false, ltb-true, ltb-false, leb-true, leb-false, le-leb, lt-leb, eqb-false}
 use Rattle.numbers.specs.Number.{signed32}
 use Rattle.numbers.specs.Place.{past, wordOf, indexOf}
 use Rattle.raster.specs.Shapes.{shifted}
 use Rattle.player.specs.Player.{fault, Outcome, refused}
 use Rattle.player.proofs.Runs.{Leaves}
-use Rattle.rules.specs.Types.{WordIndex, BitAddress, Target, At, Refused, Bounds, Window, Dot, Operands, Stopped}
+use Rattle.rules.specs.Types.{WordIndex, BitAddress, Target, At, Refused, Bounds, Window, Dot, Operands, Repeat, Stopped}
 use Rattle.rules.specs.Op as Op
 use Rattle.rules.specs.Meaning.{Meaning, Unknown, Known, meaning}
 use Rattle.rules.specs.Table.{formOf}
 use Rattle.rules.specs.Operands.{at, operands, sizeOf, highest, firstAbove}
-use Rattle.rules.specs.Environment.{Env, start, goto, onward, moved, based, clipped, windowed, stated, pushed, popped, top}
-use Rattle.rules.specs.Opcodes.{Rule, rule, taken, far, absolute, relative, reach, point}
+use Rattle.rules.specs.Environment.{Env, start, goto, onward, moved, based, clipped, windowed, stated, pushed, popped, top, repeat, over, opened, closed, innermost}
+use Rattle.rules.specs.Opcodes.{Rule, rule, taken, far, absolute, relative, reach, point, countable, another, passes}
 use Rattle.rules.specs.Step.{check, carried, ruled, stepAt, step, afgis}
-use Rattle.rules.specs.Door.{indices, between, dotFits, windowFits}
+use Rattle.rules.specs.Door.{every, indexFits, repeatFits, between, dotFits, windowFits}
 use Rattle.rules.proofs.Ranges.{both, one, other, neither, Fits}
 use Rattle.rules.proofs.Places.{within}
 
@@ -43,34 +43,129 @@ module _ {b : Bounds} (e : Env) (h : Fits b e) where
   in-window w k = (h .0, record { position = h .1 .position; origin = h .1 .origin; mode = h .1 .mode; window = k }, h .2, h .3, h .4)
 
   gone : (i : WordIndex) → i .0 ≤ 65536 → Fits b (goto i e)
-  gone i k = (h .0, h .1, record { counter = le-leb (i .0) 65536 k; depth = h .2 .depth; returns = h .2 .returns }, h .3, h .4)
+  gone i k = (h .0, h .1, record { counter = le-leb (i .0) 65536 k; depth = h .2 .depth; returns = h .2 .returns; nesting = h .2 .nesting; blocks = h .2 .blocks }, h .3, h .4)
+
+-- ---- lists of what is in range: one more, fewer, and one of them
+module _ {A : Type 0} (t : A → Bool) where
+  more : (xs : List A) (x : A) → every t xs ≡ true → t x ≡ true → every t (xs ++ (x ∷ [])) ≡ true
+  more [] x h k = both (t x) true k refl
+  more (y ∷ xs) x h k = both (t y) _ (one _ _ h) (more xs x (other (t y) _ h) k)
+
+  fewer : (k : ℕ) (xs : List A) → every t xs ≡ true → every t (take k xs) ≡ true
+  fewer zero xs h = refl
+  fewer (suc k) [] h = refl
+  fewer (suc k) (x ∷ xs) h = both (t x) _ (one _ _ h) (fewer k xs (other (t x) _ h))
+
+  member : (xs : List A) (i : ℕ) (d : A) → every t xs ≡ true → i < length xs → t (getD xs i d) ≡ true
+  member [] i d h k = absurd (omega (arith, k))
+  member (x ∷ xs) zero d h k = one (t x) _ h
+  member (x ∷ xs) (suc i) d h k = member xs i d (other (t x) _ h) (omega (arith, k))
+
+-- its last one, and how long it is with one more or one less
+inside : {A : Type 0} (xs : List A) → eqb (length xs) 0 ≡ false → length xs - 1 < length xs
+inside xs some = omega (arith, eqb-false (length xs) 0 some)
+
+longer : {A : Type 0} (k : ℕ) (xs : List A) (x : A) → leb k (length xs) ≡ false → leb (length (xs ++ (x ∷ []))) k ≡ true
+longer k xs x room = let l : length (xs ++ (x ∷ [])) ≤ k = omega (arith, length-append xs (x ∷ []), leb-false k (length xs) room) in le-leb _ _ l
+
+shorter : {A : Type 0} (k : ℕ) (xs : List A) → leb (length xs) k ≡ true → leb (length (take (length xs - 1) xs)) k ≡ true
+shorter k xs h = let l : length (take (length xs - 1) xs) ≤ k = omega (arith, length-take (length xs - 1) xs, leb-true (length xs) k h) in le-leb _ _ l
 
 -- ---- the stack
-more : (st : List WordIndex) (i : WordIndex) → indices st ≡ true → leb (i .0) 65536 ≡ true → indices (st ++ (i ∷ [])) ≡ true
-more [] i h k = both (leb (i .0) 65536) true k refl
-more (x ∷ st) i h k = both (leb (x .0) 65536) _ (one _ _ h) (more st i (other (leb (x .0) 65536) _ h) k)
+module _ {b : Bounds} (e : Env) (h : Fits b e) where
+  abbrev st : List WordIndex
+  st = e .flow .stack
 
-fewer : (k : ℕ) (st : List WordIndex) → indices st ≡ true → indices (take k st) ≡ true
-fewer zero st h = refl
-fewer (suc k) [] h = refl
-fewer (suc k) (x ∷ st) h = both (leb (x .0) 65536) _ (one _ _ h) (fewer k st (other (leb (x .0) 65536) _ h))
+  grown : leb 16 (length st) ≡ false → Fits b (pushed (e .flow .counter) e)
+  grown room = (
+    h .0,
+    h .1,
+    record {
+      counter = h .2 .counter;
+      depth = longer 16 st (e .flow .counter) room;
+      returns = more indexFits st (e .flow .counter) (h .2 .returns) (h .2 .counter);
+      nesting = h .2 .nesting;
+      blocks = h .2 .blocks;
+    },
+    h .3,
+    h .4,
+  )
 
-member : (st : List WordIndex) (i : ℕ) → indices st ≡ true → leb (getD st i start .0) 65536 ≡ true
-member [] zero h = refl
-member [] (suc i) h = refl
-member (x ∷ st) zero h = one (leb (x .0) 65536) _ h
-member (x ∷ st) (suc i) h = member st i (other (leb (x .0) 65536) _ h)
+  back : eqb (length st) 0 ≡ false → Fits b (goto (top e) (popped e))
+  back some = (
+    h .0,
+    h .1,
+    record {
+      counter = member indexFits st (length st - 1) start (h .2 .returns) (inside st some);
+      depth = shorter 16 st (h .2 .depth);
+      returns = fewer indexFits (length st - 1) st (h .2 .returns);
+      nesting = h .2 .nesting;
+      blocks = h .2 .blocks;
+    },
+    h .3,
+    h .4,
+  )
 
-grown : {b : Bounds} (e : Env) → Fits b e → leb 16 (length (e .flow .stack)) ≡ false → Fits b (pushed (e .flow .counter) e)
-grown e h room =
-    let short : length (e .flow .stack ++ (e .flow .counter ∷ [])) ≤ 16 = omega (arith, length-append (e .flow .stack) (e .flow .counter ∷ []), leb-false 16 (length (e .flow .stack)) room) in
-    (h .0, h .1, record { counter = h .2 .counter; depth = le-leb _ _ short; returns = more (e .flow .stack) (e .flow .counter) (h .2 .returns) (h .2 .counter) }, h .3, h .4)
+-- ---- repeats
+begins : {b : Bounds} (e : Env) → Fits b e → (r : Repeat) → leb 8 (length (e .flow .repeats)) ≡ false → repeatFits r ≡ true → Fits b (opened r e)
+begins e h r room fit = (
+  h .0,
+  h .1,
+  record {
+    counter = h .2 .counter;
+    depth = h .2 .depth;
+    returns = h .2 .returns;
+    nesting = longer 8 (e .flow .repeats) r room;
+    blocks = more repeatFits (e .flow .repeats) r (h .2 .blocks) fit;
+  },
+  h .3,
+  h .4,
+)
 
-back : {b : Bounds} (e : Env) → Fits b e → Fits b (goto (top e) (popped e))
-back e h =
-    let d = length (e .flow .stack) - 1 in
-    let short : length (take d (e .flow .stack)) ≤ 16 = omega (arith, length-take d (e .flow .stack), leb-true (length (e .flow .stack)) 16 (h .2 .depth)) in
-    (h .0, h .1, record { counter = member (e .flow .stack) d (h .2 .returns); depth = le-leb _ _ short; returns = fewer d (e .flow .stack) (h .2 .returns) }, h .3, h .4)
+module _ {b : Bounds} (e : Env) (h : Fits b e) where
+  abbrev rs : List Repeat
+  rs = e .flow .repeats
+
+  closes : Fits b (closed e)
+  closes = (
+    h .0,
+    h .1,
+    record {
+      counter = h .2 .counter;
+      depth = h .2 .depth;
+      returns = h .2 .returns;
+      nesting = shorter 8 rs (h .2 .nesting);
+      blocks = fewer repeatFits (length rs - 1) rs (h .2 .blocks);
+    },
+    h .3,
+    h .4,
+  )
+
+  -- a pass less on the innermost
+  module _ (some : eqb (length rs) 0 ≡ false) where
+    abbrev r : Repeat
+    r = innermost e
+
+    fit : repeatFits r ≡ true
+    fit = member repeatFits rs (length rs - 1) over (h .2 .blocks) (inside rs some)
+
+    room : leb 8 (length (take (length rs - 1) rs)) ≡ false
+    room =
+        let l : length (take (length rs - 1) rs) < 8 = omega (arith, length-take (length rs - 1) rs, leb-true (length rs) 8 (h .2 .nesting), eqb-false (length rs) 0 some) in
+        lt-leb 8 _ l
+
+    pass : (t : Bool) → another r ≡ t → Fits b (cond t (goto (r .start) (opened (repeat (r .start) (r .left - 1)) (closed e))) (closed e))
+    pass true p =
+        let i : r .start .0 ≤ 65536 = leb-true (r .start .0) 65536 (one (indexFits (r .start)) _ fit) in
+        let least : 1 ≤ r .left - 1 = omega (arith, ltb-true 1 (r .left) p) in
+        let most : r .left - 1 ≤ 1000 = omega (arith, leb-true (r .left) 1000 (other (leb 1 (r .left)) _ (other (indexFits (r .start)) (countable (r .left)) fit))) in
+        let next = repeat (r .start) (r .left - 1) in
+        let fits-too = both (indexFits (r .start)) (countable (r .left - 1)) (le-leb (r .start .0) 65536 i) (both (leb 1 (r .left - 1)) (leb (r .left - 1) 1000) (le-leb 1 (r .left - 1) least) (le-leb (r .left - 1) 1000 most)) in
+        gone (opened next (closed e)) (begins (closed e) closes next room fits-too) (r .start) i
+    pass false p = closes
+
+    goes-on : Fits b (passes r e)
+    goes-on = pass (another r) refl
 
 -- ---- targets, in a list of at most 65,536 words
 abbrev Small : Target → Type 0
@@ -127,7 +222,9 @@ module _ (o : Operands) (n : ℕ) (few : n ≤ 65536) where
   rule-keeps Op.Call e h f = reached (absolute (o .a) n) (pushed (e .flow .counter) e) (small-word (record { 0 = o .a }) n few) (grown e h (f .4))
   rule-keeps Op.CallBy e h f =
       reached (relative (o .a) e n) (pushed (e .flow .counter) e) (small-index (pos (e .flow .counter .0) +ℤ signed32 (o .a)) n few) (grown e h (f .4))
-  rule-keeps Op.Return e h f = back e h
+  rule-keeps Op.Return e h f = back e h (f .5)
+  rule-keeps Op.Repeat e h f = begins e h (repeat (e .flow .counter) (o .a)) (f .4) (both _ _ (h .2 .counter) (not-false _ (f .0)))
+  rule-keeps Op.EndRepeat e h f = goes-on e h (f .5)
   rule-keeps Op.ClipMode e h f = in-mode e h (o .a) (ltb-false 2 (o .a) (f .0))
   rule-keeps Op.ClipWindow e h f =
       let g = neither _ _ (f .1) in

@@ -13,8 +13,8 @@ use Rattle.player.specs.Painting.{placed}
 use Rattle.player.specs.Shown.{marks}
 use Rattle.rules.specs.Types.{Target, At, Refused, Dot, Operands}
 use Rattle.rules.specs.Op as Op
-use Rattle.rules.specs.Environment.{Env, based, pushed, frame}
-use Rattle.rules.specs.Opcodes.{Rule, rule, point, taken, absolute, relative, reach}
+use Rattle.rules.specs.Environment.{Env, based, pushed, closed, innermost, frame}
+use Rattle.rules.specs.Opcodes.{Rule, rule, point, taken, absolute, relative, reach, another}
 
 -- ---- the same op from another origin
 abbrev pub withOrigin : Dot → Rule → Rule
@@ -30,6 +30,10 @@ reached Refused p e = refl
 jumped : (taken : Bool) (t : Target) (p : Dot) (e : Env) → cond taken (reach t (based p e)) (based p e) ≡ based p (cond taken (reach t e) e)
 jumped true t p e = reached t p e
 jumped false t p e = refl
+
+passed : (t : Bool) (p : Dot) (x y : Env) → cond t (based p x) (based p y) ≡ based p (cond t x y)
+passed true p x y = refl
+passed false p x y = refl
 
 -- every op but XYORG breaks the same, leaves the same environment but for the origin, which stays, and says the same shape and colour
 pub slides : (op : Op.Op) → (op ≡ Op.Origin → ⊥) → (o : Operands) (n : ℕ) (p : Dot) (e : Env) → rule op o n (based p e) ≡ withOrigin p (rule op o n e)
@@ -50,6 +54,8 @@ slides Op.JumpBy h o n p e = other-env _ (jumped (taken (o .a) e) (relative (o .
 slides Op.Call h o n p e = other-env _ (reached (absolute (o .a) n) p (pushed (e .flow .counter) e))
 slides Op.CallBy h o n p e = other-env _ (reached (relative (o .a) e n) p (pushed (e .flow .counter) e))
 slides Op.Return h o n p e = refl
+slides Op.Repeat h o n p e = refl
+slides Op.EndRepeat h o n p e = other-env _ (passed (another (innermost e)) p _ (closed e))
 slides Op.ClipMode h o n p e = refl
 slides Op.ClipWindow h o n p e = refl
 slides Op.Colour h o n p e = refl

@@ -6,7 +6,7 @@ use lib.Dec.{leb}
 pub use Rattle.player.proofs.Doors.{one, other}
 use Rattle.rules.specs.Types.{Bounds}
 use Rattle.rules.specs.Environment.{Pen, Flow, Env}
-use Rattle.rules.specs.Door.{paneFits, dotFits, windowFits, indices, stateFits, penFits, flowFits, fits}
+use Rattle.rules.specs.Door.{paneFits, dotFits, windowFits, stackFits, repeatsFit, indexFits, repeatFits, every, stateFits, penFits, flowFits, fits}
 
 -- ---- tests
 pub both : (a b : Bool) → a ≡ true → b ≡ true → (a && b) ≡ true
@@ -29,9 +29,11 @@ PenFits p =
 abbrev pub FlowFits : Flow → Type 0
 FlowFits f =
     record {
-      counter : leb (f .counter .0) 65536 ≡ true;
+      counter : indexFits (f .counter) ≡ true;
       depth : leb (length (f .stack)) 16 ≡ true;
-      returns : indices (f .stack) ≡ true;
+      returns : every indexFits (f .stack) ≡ true;
+      nesting : leb (length (f .repeats)) 8 ≡ true;
+      blocks : every repeatFits (f .repeats) ≡ true;
     }
 
 pen-joined : (p : Pen) → PenFits p → penFits p ≡ true
@@ -44,12 +46,20 @@ pen-parted p h =
     record { position = one _ _ h; origin = one _ _ p1; mode = one _ _ p2; window = other (leb (p .mode) 2) _ p2 }
 
 flow-joined : (f : Flow) → FlowFits f → flowFits f ≡ true
-flow-joined f h = simp (h .counter, h .depth, h .returns)
+flow-joined f h = simp (h .counter, h .depth, h .returns, h .nesting, h .blocks)
 
 flow-parted : (f : Flow) → flowFits f ≡ true → FlowFits f
 flow-parted f h =
-    let st = other (leb (f .counter .0) 65536) _ h in
-    record { counter = one _ _ h; depth = one _ _ st; returns = other (leb (length (f .stack)) 16) _ st }
+    let both = other (indexFits (f .counter)) _ h in
+    let st = one (stackFits (f .stack)) _ both in
+    let rs = other (stackFits (f .stack)) _ both in
+    record {
+      counter = one _ _ h;
+      depth = one _ _ st;
+      returns = other (leb (length (f .stack)) 16) _ st;
+      nesting = one _ _ rs;
+      blocks = other (leb (length (f .repeats)) 8) _ rs;
+    }
 
 -- ---- every field in range, by its part, with the bounds
 abbrev pub Fits : Bounds → Env → Type 0

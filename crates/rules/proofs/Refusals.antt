@@ -21,8 +21,8 @@ use Rattle.rules.specs.Op as Op
 use Rattle.rules.specs.Meaning.{Meaning, Unknown, Known, meaning}
 use Rattle.rules.specs.Table.{formOf}
 use Rattle.rules.specs.Operands.{at}
-use Rattle.rules.specs.Environment.{Env, pushed, stated}
-use Rattle.rules.specs.Opcodes.{Rule, rule, taken, absolute, relative, reach}
+use Rattle.rules.specs.Environment.{Env, pushed, closed, innermost, stated}
+use Rattle.rules.specs.Opcodes.{Rule, rule, taken, absolute, relative, reach, another}
 use Rattle.rules.specs.Step.{check, unknown, cut, misnamed, ruled, carried, judged, step, afgis}
 use Rattle.rules.specs.Door.{between, fits, door, machine, whole}
 use Rattle.rules.proofs.Ranges.{one}
@@ -38,6 +38,10 @@ reached Refused e h = h
 jumped : (taken : Bool) (t : Target) (e : Env) → Going e → Going (cond taken (reach t e) e)
 jumped true t e h = reached t e h
 jumped false t e h = h
+
+passed : (t : Bool) (x y : Env) → Going x → Going y → Going (cond t x y)
+passed true x y h k = h
+passed false x y h k = k
 
 rule-goes : (op : Op.Op) (o : Operands) (n : ℕ) (e : Env) → Going e → Going (rule op o n e .env)
 rule-goes Op.Noop o n e h = h
@@ -57,6 +61,8 @@ rule-goes Op.JumpBy o n e h = jumped (taken (o .a) e) (relative (o .b) e n) e h
 rule-goes Op.Call o n e h = reached (absolute (o .a) n) (pushed (e .flow .counter) e) h
 rule-goes Op.CallBy o n e h = reached (relative (o .a) e n) (pushed (e .flow .counter) e) h
 rule-goes Op.Return o n e h = h
+rule-goes Op.Repeat o n e h = h
+rule-goes Op.EndRepeat o n e h = passed (another (innermost e)) _ (closed e) h h
 rule-goes Op.ClipMode o n e h = h
 rule-goes Op.ClipWindow o n e h = h
 rule-goes Op.Colour o n e h = h

@@ -1,5 +1,5 @@
 -- No second answer meets the promise: number, place, every field of the environment, every byte of the screen, steps. Only what lies past the
--- last return stacked is free, which is no part of the environment.
+-- last return stacked and past the last repeat open is free, which is no part of the environment.
 use Prim.Native.Nat.{ℕ, _<_}
 use mathlib.Core.Path.{_≡_, refl, sym, ap, _∙_}
 use mathlib.Core.Bool.{Bool, true, false, cond}
@@ -16,7 +16,7 @@ use Rattle.rules.specs.Types.{Bounds, Verdict, Running, Ended, Stopped}
 use Rattle.rules.specs.declared.environment.Env as Held
 use Rattle.rules.specs.declared.answer.Answer as Came
 use Rattle.rules.specs.declared.answer.Made as Made
-use Rattle.rules.specs.Environment.{Env, held, carries0, stateOf, kept, firsts}
+use Rattle.rules.specs.Environment.{Env, held, carries0, stateOf, kept, start, over, firsts}
 use Rattle.rules.specs.Door.{door, whole, said, Promise}
 use Rattle.rules.specs.Fresh.{zeros}
 use Rattle.rules.specs.Fresh as Fresh
@@ -46,12 +46,14 @@ pub stopped-state : (v : Verdict) → 1 < v .number → stateOf v ≡ Stopped v
 unfolding stateOf
 stopped-state v h = rw (ne-eqb (v .number) 0 (λ z. omega (arith, z, h)), ne-eqb (v .number) 1 (λ z. omega (arith, z, h)))
 
--- all that the program's environment holds, but for what lies past the last return stacked
+-- all that the program's environment holds, but for what lies past the last return stacked and past the last repeat open
 pub record Alike (a b : Held.Env) : Type 0 where
   pub bounds : a .bounds ≡ b .bounds
   pub registers : a .registers ≡ b .registers
   pub variables : a .variables ≡ b .variables
-  pub stack : firsts (a .registers .depth) (a .stack) ≡ firsts (b .registers .depth) (b .stack)
+  pub stack : firsts start (a .registers .depth) (a .stack) ≡ firsts start (b .registers .depth) (b .stack)
+  pub nesting : a .nesting ≡ b .nesting
+  pub repeats : firsts over (a .nesting) (a .repeats) ≡ firsts over (b .nesting) (b .repeats)
 
 -- environments that stand for the same are alike
 pub alike : (a b : Held.Env) → held a ≡ held b → Alike a b
@@ -74,12 +76,16 @@ alike a b h =
       };
       variables = ap (λ (e : Env). e .variables) h;
       stack = ap (λ (e : Env). e .flow .stack) h;
+      nesting =
+          sym (length-firsts over (a .nesting) (a .repeats))
+          ∙ (ap (λ (e : Env). length (e .flow .repeats)) h ∙ length-firsts over (b .nesting) (b .repeats));
+      repeats = ap (λ (e : Env). e .flow .repeats) h;
     }
   where
     depth : a .registers .depth ≡ b .registers .depth
     depth =
-        sym (length-firsts (a .registers .depth) (a .stack))
-        ∙ (ap (λ (e : Env). length (e .flow .stack)) h ∙ length-firsts (b .registers .depth) (b .stack))
+        sym (length-firsts start (a .registers .depth) (a .stack))
+        ∙ (ap (λ (e : Env). length (e .flow .stack)) h ∙ length-firsts start (b .registers .depth) (b .stack))
 
     state : fault (a .registers .state) (a .registers .place) ≡ fault (b .registers .state) (b .registers .place)
     state = sym (kept-state _) ∙ (ap (λ (e : Env). kept (e .state)) h ∙ kept-state _)

@@ -1,4 +1,4 @@
--- Document 01, the ranges of 'What a call is given' and 10 to 14 of 'Numbers that come back': the door, and the whole answer of a call.
+-- Document 01, the ranges of 'What a call is given' with those of document 02, and 10 to 14 of 'Numbers that come back': the door, and the whole answer of a call.
 use Prim.Native.Nat.{ℕ}
 use mathlib.Core.Path.{_≡_}
 use mathlib.Core.Bool.{Bool, true, _&&_}
@@ -11,11 +11,11 @@ use Rattle.player.specs.Run.{Answer, answer}
 use Rattle.player.specs.Hosted.{Request, Hosted, answered}
 use Rattle.player.specs.Door.{doorOf}
 pub use Rattle.player.specs.Door.{between, sizeFits, paneFits}
-use Rattle.rules.specs.Types.{WordIndex, Window, State, Running, Ended, Stopped}
+use Rattle.rules.specs.Types.{WordIndex, Window, Repeat, State, Running, Ended, Stopped}
 use Rattle.rules.specs.declared.environment.Env as Held
 use Rattle.rules.specs.declared.answer.Answer as Came
 use Rattle.rules.specs.Environment.{Pen, Flow, Env, held}
-pub use Rattle.rules.specs.Opcodes.{dotFits}
+pub use Rattle.rules.specs.Opcodes.{dotFits, countable}
 use Rattle.rules.specs.Step.{afgis}
 
 -- ---- ranges: those of size and pane, and the order of 10 to 14, are every player's
@@ -24,20 +24,31 @@ use Rattle.rules.specs.Step.{afgis}
 abbrev pub windowFits : Window → Bool
 windowFits w = inWord w.x0 && inWord w.y0 && (inWord w.x1 && inWord w.y1)
 
--- word indices, 0 to 65,536
-abbrev pub indices : List WordIndex → Bool
-indices [] = true
-indices (i ∷ is) = leb (i .0) 65536 && indices is
+-- a word index, 0 to 65,536
+abbrev pub indexFits : WordIndex → Bool
+indexFits i = leb (i .0) 65536
 
--- at most 16 stacked return indices
+-- a word index and 1 to 1,000 passes left
+abbrev pub repeatFits : Repeat → Bool
+repeatFits r = indexFits r.start && countable r.left
+
+-- each of a list
+abbrev pub every : {A : Type 0} → (A → Bool) → List A → Bool
+every t [] = true
+every t (x ∷ xs) = t x && every t xs
+
+-- at most 16 stacked return indices, and at most eight open repeats
 abbrev pub stackFits : List WordIndex → Bool
-stackFits st = leb (length st) 16 && indices st
+stackFits st = leb (length st) 16 && every indexFits st
+
+abbrev pub repeatsFit : List Repeat → Bool
+repeatsFit rs = leb (length rs) 8 && every repeatFits rs
 
 -- running, ended, or stopped with a number 20 to 29 at a place 0 to 65,536
 abbrev pub stateFits : State → Bool
 stateFits Running = true
 stateFits Ended = true
-stateFits (Stopped v) = between 20 29 v.number && leb (v .place .0) 65536
+stateFits (Stopped v) = between 20 29 v.number && indexFits v.place
 
 -- position, origin and window are signed words, the clip mode is 0 to 2; any colour and any pattern is in range by its type
 abbrev pub penFits : Pen → Bool
@@ -45,7 +56,7 @@ penFits p = dotFits p.position && (dotFits p.origin && (leb p.mode 2 && windowFi
 
 -- compared values are in range by their types
 abbrev pub flowFits : Flow → Bool
-flowFits f = leb (f .counter .0) 65536 && stackFits f.stack
+flowFits f = indexFits f.counter && (stackFits f.stack && repeatsFit f.repeats)
 
 -- every field but the size; variables are in range by their types
 abbrev pub fits : Env → Bool

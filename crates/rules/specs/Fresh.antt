@@ -16,12 +16,12 @@ use Rattle.rules.specs.Door.{sizeFits, paneFits}
 abbrev pub corner : ℕ → ℕ → Window
 corner x y = record { x0 = pos 0; y0 = pos 0; x1 = pos x; y1 = pos y }
 
--- variables 0, position (0, 0), origin (0, 0), compared values 0 and 0, counter 0, stack empty, running
+-- variables 0, position (0, 0), origin (0, 0), compared values 0 and 0, counter 0, stack empty, no repeat open, running
 abbrev pub blank : Bounds → ℕ → ℕ → Window → Env
 blank b colour pattern w =
     env b (replicate 64 0)
     (record { position = topLeft; origin = topLeft; colour = colour; pattern = pattern; mode = 0; window = w })
-    (record { counter = start; stack = []; first = 0; second = 0 })
+    (record { counter = start; stack = []; repeats = []; first = 0; second = 0 })
     Running
 
 -- colour 15, a line pattern of all ones, clip mode 0, clip window the whole screen

@@ -1,4 +1,4 @@
--- Document 01, 'Opcodes of the base', and document 02, T-01, T-03 and T-06: what each opcode does and where its operands come from. The comments are the paper's names with their operands.
+-- Document 01, 'Opcodes of the base', and document 02, T-01, T-03, T-06 and T-09: what each opcode does and where its operands come from. The comments are the paper's names with their operands.
 use mathlib.Core.List.{[], _∷_}
 use Rattle.rules.specs.declared.opcode.FlowForm.{FlowForm}
 use Rattle.rules.specs.declared.opcode.FlowForm.the-variants as Flows
@@ -22,6 +22,8 @@ flow Flows.Noop = Known Op.Noop []  -- NOOP
 flow Flows.Eodl = Known Op.End []  -- EODL
 flow Flows.Cal = Known Op.Call (long ∷ [])  -- CAL long
 flow Flows.Calv = Known Op.Call (from 1 ∷ [])  -- CALV V
+flow Flows.Erpt = Known Op.EndRepeat []  -- ERPT
+flow Flows.Rpt = Known Op.Repeat (plain 1)  -- RPT count
 flow Flows.Rtrn = Known Op.Return []  -- RTRN
 flow Flows.Jumpa = Known Op.Jump (word ∷ long ∷ [])  -- JUMPA condition long
 flow Flows.Jumpr = Known Op.JumpBy (plain 2)  -- JUMPR condition word

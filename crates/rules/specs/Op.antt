@@ -17,6 +17,8 @@ pub data Op : Type 0 where
   Call : Op
   CallBy : Op
   Return : Op
+  Repeat : Op
+  EndRepeat : Op
   ClipMode : Op
   ClipWindow : Op
   Colour : Op

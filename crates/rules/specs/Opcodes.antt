@@ -1,5 +1,5 @@
--- Document 01, 'Opcodes of the base', and document 02, T-01, T-03 and T-06: what each op does, one clause an op. A clause finds the counter at the next opcode.
-use Prim.Native.Nat.{ℕ}
+-- Document 01, 'Opcodes of the base', and document 02, T-01, T-03, T-06 and T-09: what each op does, one clause an op. A clause finds the counter at the next opcode.
+use Prim.Native.Nat.{ℕ, _-_}
 use mathlib.Core.Bool.{Bool, true, false, cond, not, _&&_, _||_}
 use lib.ListN.{length}
 use lib.Dec.{ltb, leb, eqb}
@@ -12,10 +12,10 @@ use Rattle.raster.specs.Shapes.{Shape, dot, shifted, all}
 use Rattle.lines.specs.Line.{line}
 use Rattle.lines.specs.Dashes.{dashed}
 use Rattle.circles.specs.Circle.{disc, outline}
-use Rattle.rules.specs.Types.{Target, At, Refused, Dot, Window, Line, Circle, Operands, Ended}
+use Rattle.rules.specs.Types.{Target, At, Refused, Dot, Window, Line, Circle, Operands, Repeat, Ended}
 use Rattle.rules.specs.Op as Op
 use Rattle.rules.specs.Operands.{at}
-use Rattle.rules.specs.Environment.{Env, put, moved, based, coloured, patterned, clipped, windowed, compared, goto, stated, pushed, popped, top}
+use Rattle.rules.specs.Environment.{Env, put, moved, based, coloured, patterned, clipped, windowed, compared, goto, stated, pushed, popped, top, repeat, opened, closed, innermost}
 use Rattle.rules.specs.Conditions.{allowed, met}
 
 -- ---- what an op says: which of 24 to 29 it breaks, the environment after it, which dots it paints and in which colour
@@ -78,6 +78,20 @@ jumps k t e =
 abbrev pub calls : Target → Env → Rule
 calls t e = refuse 27 (missing t) (refuse 28 (leb 16 (length (e .flow .stack))) (leaves (reach t (pushed (e .flow .counter) e))))
 
+-- ---- repeats
+
+-- how many passes a block may have
+abbrev pub countable : ℕ → Bool
+countable n = leb 1 n && leb n 1000
+
+-- a pass is left behind the one that ends
+abbrev pub another : Repeat → Bool
+another r = ltb 1 r.left
+
+-- one pass is taken off the innermost repeat r: back to the opcode behind its RPT if any is left, else the block is closed
+abbrev pub passes : Repeat → Env → Env
+passes r e = cond (another r) (goto r.start (opened (repeat r.start (r .left - 1)) (closed e))) (closed e)
+
 -- ---- points
 abbrev pub point : ℕ → ℕ → Dot
 point a b = record { x = signed32 a; y = signed32 b }
@@ -134,6 +148,8 @@ rule Op.JumpBy o n e = jumps o.a (relative o.b e n) e
 rule Op.Call o n e = calls (absolute o.a n) e
 rule Op.CallBy o n e = calls (relative o.a e n) e
 rule Op.Return o n e = refuse 29 (eqb (length (e .flow .stack)) 0) (leaves (goto (top e) (popped e)))
+rule Op.Repeat o n e = refuse 24 (not (countable o.a)) (refuse 28 (leb 8 (length (e .flow .repeats))) (leaves (opened (repeat (e .flow .counter) o.a) e)))
+rule Op.EndRepeat o n e = refuse 29 (eqb (length (e .flow .repeats)) 0) (leaves (passes (innermost e) e))
 rule Op.ClipMode o n e = refuse 24 (ltb 2 o.a) (leaves (clipped o.a e))
 rule Op.ClipWindow o n e =
     let p = point o.a o.b in

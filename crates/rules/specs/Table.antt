@@ -1,4 +1,4 @@
--- Document 01, 'Opcodes of the base', and document 02, T-01, T-03 and T-06: every opcode's number, in order. The numbers are theirs; those of RTRN, XYORG and XYORGV are of 004's alphabetical list.
+-- Document 01, 'Opcodes of the base', and document 02, T-01, T-03, T-06 and T-09: every opcode's number, in order. The numbers are theirs; those of ERPT, RPT, RTRN, XYORG and XYORGV are of 004's alphabetical list.
 use Prim.Native.Nat.{ℕ}
 use mathlib.Core.Bool.{cond}
 use mathlib.Core.List.{List, [], _∷_}
@@ -41,6 +41,7 @@ table =
     row 0x0034 (Value Values.Cpvv) ∷
     row 0x0042 (Value Values.Dcrv) ∷
     row 0x0045 (Value Values.Divv) ∷
+    row 0x004F (Flow Flows.Erpt) ∷
     row 0x005D (Value Values.Incv) ∷
     row 0x0065 (Value Values.Ldiv) ∷
     row 0x0066 (Value Values.Ldivl) ∷
@@ -63,6 +64,7 @@ table =
     row 0x0091 (Value Values.Orvv) ∷
     row 0x009E (Paint Paints.Pixel) ∷
     row 0x009F (Paint Paints.Pixelv) ∷
+    row 0x00B7 (Flow Flows.Rpt) ∷
     row 0x00B9 (Flow Flows.Rtrn) ∷
     row 0x0100 (Pen Pens.Xyorg) ∷
     row 0x0101 (Pen Pens.Xyorgv) ∷

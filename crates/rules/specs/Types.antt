@@ -14,5 +14,6 @@ pub use Rattle.player.specs.declared.Verdict.{Verdict}
 pub use Rattle.player.specs.declared.State.{State}
 pub use Rattle.player.specs.declared.State.the-variants.{Running, Ended, Stopped}
 pub use Rattle.rules.specs.declared.environment.Registers.{Registers}
+pub use Rattle.rules.specs.declared.environment.Repeat.{Repeat}
 pub use Rattle.rules.specs.declared.opcode.Form.{Form}
 pub use Rattle.rules.specs.declared.opcode.Operands.{Operands}

@@ -9,7 +9,7 @@ ghost use mathlib.Core.Path.{_≡_};
 ghost use Rattle.player.specs.Player.{fault};
 ghost use Rattle.rules.specs.Environment.{carries0, stateOf};
 
-// What opcodes change beside the two arrays. The line pattern and the two values last compared are 32 bits each, the depth
+// What opcodes change beside variables, stack and repeats. The line pattern and the two values last compared are 32 bits each, the depth
 // counts the stacked returns, and the state is 0 running, 1 ended, 20 to 29 stopped with that number. The place is that of the refusal, and 0 in
 // an environment that is not stopped.
 #[repr(C)]
@@ -28,13 +28,23 @@ pub struct Registers {
     pub state: u8,
 }
 
-// Variables are 32 bits each; the first return stacked is at the start of the stack.
+// Document 02, T-09, an open repeat: where its block begins, behind the RPT, and how many passes are left, the one that runs among them.
+#[repr(C)]
+pub struct Repeat {
+    pub start: WordIndex,
+    pub left: u32,
+}
+
+// Variables are 32 bits each; the first return stacked is at the start of the stack, the outermost repeat at the start of the
+// repeats, and the nesting counts those that are open.
 #[repr(C)]
 pub struct Env {
     pub bounds: Bounds,
     pub registers: Registers,
     pub variables: [u32; 64],
     pub stack: [WordIndex; 16],
+    pub nesting: u32,
+    pub repeats: [Repeat; 8],
 }
 
 // A number with the place 0.

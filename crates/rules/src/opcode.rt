@@ -1,12 +1,14 @@
-// Document 01, 'Opcodes of the base', and document 02, T-01, T-03 and T-06: the opcodes by their names on the paper, and what was read behind one.
+// Document 01, 'Opcodes of the base', and document 02, T-01, T-03, T-06 and T-09: the opcodes by their names on the paper, and what was read behind one.
 use numbers::place::VarNo;
 
-// Those that go elsewhere, end or do nothing,
+// Those that go elsewhere, repeat, end or do nothing,
 pub enum FlowForm {
     Noop,
     Eodl,
     Cal,
     Calv,
+    Erpt,
+    Rpt,
     Rtrn,
     Jumpa,
     Jumpr,

@@ -65,4 +65,6 @@ form-of-spec =
     (λ c. search at)
     (λ c. search at)
     (λ c. search at)
+    (λ c. search at)
+    (λ c. search at)
     (λ c. sym (unknown _ (c .match .rest))))
