@@ -46,7 +46,7 @@ enum ovenlute_number {
     OVENLUTE_BAD_TARGET = 27,    /* a target that is not allowed */
     OVENLUTE_STACK_FULL = 28,    /* a call with 16 returns stacked, or a repeat with eight open */
     OVENLUTE_STACK_EMPTY = 29,   /* a return with none stacked, or the end of a repeat with none open */
-    OVENLUTE_END_INSIDE = 30,    /* an end of the list inside a repeat */
+    OVENLUTE_END_INSIDE = 30,    /* an EODL inside a repeat */
     OVENLUTE_MANY_STEPS = 31     /* more than 1,000,000 steps are needed */
 };
 
