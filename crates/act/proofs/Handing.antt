@@ -2,7 +2,6 @@
 use Prim.Native.Nat.{ℕ, _<_}
 use mathlib.Core.Path.{_≡_, ap, _∙_}
 use mathlib.Core.List.{List}
-use lib.ListN.{length}
 use lib.IntN.{ℤ}
 use Rattle.numbers.specs.declared.place.WordIndex.{WordIndex}
 use Rattle.raster.specs.declared.frame.Bounds.{Bounds}
@@ -16,7 +15,7 @@ use Rattle.rules.specs.Opcodes.{Rule}
 use Rattle.fetch.specs.declared.source.Taken.{Taken}
 use Rattle.fetch.specs.declared.source.Taken.the-variants.{Refused, Got}
 use Rattle.fetch.specs.Stages.{Destined}
-use Rattle.act.specs.Lent.{look, PointsFull, Recelled, Repointed}
+use Rattle.act.specs.Lent.{look, PointsFull, StackFull, Recelled, Repointed}
 use Rattle.act.specs.Shown.{seen, does, answers}
 use Rattle.act.specs.Contracts.{Halts, Goes, Sets, Stacks, Moves, Paints, Draws, Brushed}
 
@@ -29,9 +28,9 @@ module _ {t : Taken} {n : ℕ} {i : WordIndex} (f : Operands → Env → Rule) (
   unfolding answers
   passed-sets {vs} = record { cells = h .1 .full; tells = λ b ps st s. rw (e, h .0) (ap halted (h .1 .shows b ps vs st)) }
 
-  pub passed-stacks : {st : List ℕ} → length st ≡ 16 → Stacks u (answers t f) cs cs' st st
+  pub passed-stacks : {st : List ℕ} → StackFull st → Stacks u (answers t f) cs cs' st st
   unfolding answers
-  passed-stacks {st} d = record { cells = h .1 .full; deep = d; tells = λ b ps vs s. rw (e, h .0) (ap halted (h .1 .shows b ps vs st)) }
+  passed-stacks {st} d = record { cells = h .1 .full; stack = d; tells = λ b ps vs s. rw (e, h .0) (ap halted (h .1 .shows b ps vs st)) }
 
   pub passed-moves : {ps : List ℤ} → PointsFull ps → Moves u (answers t f) cs cs' ps ps
   unfolding answers

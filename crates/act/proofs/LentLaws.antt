@@ -1,8 +1,8 @@
--- Each register stands at its place: a cell or a point that is set changes one thing of the environment. And what is stacked is an index.
-use Prim.Native.Nat.{ℕ, zero, suc, _<_}
-use mathlib.Core.Path.{_≡_, refl, ap}
-use mathlib.Core.List.{List, [], _∷_}
-use lib.ListN.{length, set, getD}
+-- Each register stands at its place: a cell or a point that is set changes one thing of the environment.
+use Prim.Native.Nat.{ℕ, _<_}
+use mathlib.Core.Path.{_≡_, refl}
+use mathlib.Core.List.{List}
+use lib.ListN.{set}
 use lib.IntN.{ℤ, pos}
 use Rattle.player.specs.declared.Verdict.{Verdict}
 use Rattle.player.specs.declared.State.the-variants.{Ended}
@@ -12,8 +12,8 @@ use Rattle.raster.specs.declared.dots.Dot.{Dot}
 use Rattle.raster.specs.declared.frame.Window.{Window}
 use Rattle.brush.proofs.Spelt.{one-by-one}
 use Rattle.brush.proofs.Brushes.{byte}
-use Rattle.rules.specs.Environment.{start, goto, compared, clipped, coloured, patterned, stated, moved, windowed, based, stateOf}
-use Rattle.act.specs.Lent.{numbers, indexed, CellsFull, PointsFull, Recelled, Repointed, Deepened}
+use Rattle.rules.specs.Environment.{goto, compared, clipped, coloured, patterned, stated, moved, windowed, based, stateOf}
+use Rattle.act.specs.Lent.{CellsFull, PointsFull, Recelled, Repointed, Deepened}
 
 module _ (cs : List ℕ) (l : CellsFull cs) where
   pub counter-set : (i : WordIndex) → Recelled (goto i) cs (set cs 0 (i .0))
@@ -64,32 +64,3 @@ module _ (ps : List ℤ) (l : PointsFull ps) where
   origin-set p ex ey =
       rw (ex, ey)
       (one-by-one (pos 0) (λ ps. Repointed (based p) ps (set (set ps 6 (p .x)) 7 (p .y))) ps l (record { full = refl; shows = λ b cs vs st. refl }))
-
--- ---- sixteen, read one by one
-abbrev reads : {A : Type 0} → A → ℕ → ℕ → List A → List A
-reads d k zero xs = []
-reads d k (suc n) xs = getD xs k d ∷ reads d (suc k) n xs
-
-all-read : {A : Type 0} (d : A) (xs : List A) → length xs ≡ 16 → reads d 0 16 xs ≡ xs
-all-read d xs h = one-by-one d (λ xs. reads d 0 16 xs ≡ xs) xs h refl
-
-pub all-numbers : (st : List WordIndex) → length st ≡ 16 → numbers (reads start 0 16 st) ≡ numbers st
-all-numbers st h = ap numbers (all-read start st h)
-
-pub all-indexed : (st : List ℕ) → length st ≡ 16 → indexed (reads 0 0 16 st) ≡ indexed st
-all-indexed st h = ap indexed (all-read 0 st h)
-
--- ---- the stack: an index that is stored, that is read, and how many there are
-pub indexed-set : (st : List ℕ) (k : ℕ) (i : WordIndex) → indexed (set st k (i .0)) ≡ set (indexed st) k i
-indexed-set [] k i = refl
-indexed-set (x ∷ st) zero i = refl
-indexed-set (x ∷ st) (suc k) i = ap (λ (t : List WordIndex). record { 0 = x } ∷ t) (indexed-set st k i)
-
-pub indexed-at : (st : List ℕ) (k : ℕ) → getD (indexed st) k start ≡ record { 0 = getD st k 0 }
-indexed-at [] k = refl
-indexed-at (x ∷ st) zero = refl
-indexed-at (x ∷ st) (suc k) = indexed-at st k
-
-pub indexed-length : (st : List ℕ) → length (indexed st) ≡ length st
-indexed-length [] = refl
-indexed-length (x ∷ st) = ap suc (indexed-length st)

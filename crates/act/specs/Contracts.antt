@@ -2,7 +2,6 @@
 use Prim.Native.Nat.{ℕ, _≤_}
 use mathlib.Core.Path.{_≡_}
 use mathlib.Core.List.{List}
-use lib.ListN.{length}
 use lib.IntN.{ℤ}
 use Rattle.raster.specs.declared.dots.Dot.{Dot}
 use Rattle.raster.specs.declared.frame.Bounds.{Bounds}
@@ -13,7 +12,7 @@ use Rattle.player.specs.declared.Upshot.{Upshot}
 use Rattle.player.specs.declared.Upshot.the-variants.{Refused}
 use Rattle.player.specs.Player.{fault}
 use Rattle.rules.specs.Environment.{Env, stated, stateOf}
-use Rattle.act.specs.Lent.{celled, pointed, look, CellsFull, PointsFull, Recelled}
+use Rattle.act.specs.Lent.{celled, pointed, nesting, look, CellsFull, PointsFull, StackFull, Recelled}
 use Rattle.act.specs.Shown.{Shown, seen}
 
 -- what an opcode must show of an environment, with the brush that is left
@@ -38,7 +37,7 @@ pub record Sets (u : Upshot) (shows : Showing) (cs cs' vs vs' : List ℕ) : Type
 
 pub record Stacks (u : Upshot) (shows : Showing) (cs cs' st st' : List ℕ) : Type 0 where
   pub cells : CellsFull cs'
-  pub deep : length st' ≡ 16
+  pub stack : StackFull st'
   pub tells : (b : Bounds) (ps : List ℤ) (vs p : List ℕ) → seen u (look b cs' ps vs st') p ≡ shows (look b cs ps vs st) p
 
 pub record Moves (u : Upshot) (shows : Showing) (cs cs' : List ℕ) (ps ps' : List ℤ) : Type 0 where
@@ -76,8 +75,9 @@ pub record Drawable (cs : List ℕ) (ps : List ℤ) (p : List ℕ) : Type 0 wher
   pub brush : Brushed p
   pub here : Logical (pointed ps .position)
 
--- at most 16 returns are stacked, in an array of 16
+-- at most 16 returns are stacked, and at most eight repeats are open
 pub record Stacked (cs st : List ℕ) : Type 0 where
   pub cells : CellsFull cs
+  pub stack : StackFull st
   pub deep : celled cs .depth ≤ 16
-  pub full : length st ≡ 16
+  pub nested : nesting st ≤ 8

@@ -1,14 +1,15 @@
--- The registers and the stack as the program lends them: numbers in cells, coordinates in points, the numbers of the stacked indices in an array.
+-- The registers, the stacked returns and the open repeats as the program lends them: numbers in cells, coordinates in points, and what is stacked or open in an array of numbers.
 use Prim.Native.Nat.{ℕ}
 use mathlib.Core.Path.{_≡_}
-use mathlib.Core.List.{List, [], _∷_, map}
-use lib.ListN.{length, getD}
+use mathlib.Core.List.{List, [], _∷_, _++_, map}
+use lib.ListN.{length, getD, take, drop}
 use lib.IntN.{ℤ, pos}
 use Rattle.numbers.specs.declared.place.WordIndex.{WordIndex}
 use Rattle.numbers.specs.Number.{low8}
 use Rattle.raster.specs.declared.frame.Bounds.{Bounds}
 use Rattle.rules.specs.declared.environment.Registers.{Registers}
-use Rattle.rules.specs.Environment.{Env, view, stacked, firsts}
+use Rattle.rules.specs.declared.environment.Repeat.{Repeat}
+use Rattle.rules.specs.Environment.{Env, start, repeat, over, view, stacked, repeating, firsts}
 use Rattle.rules.specs.Operands.{at}
 
 -- as many as there are
@@ -17,6 +18,9 @@ CellsFull cs = length cs ≡ 9
 
 abbrev pub PointsFull : List ℤ → Type 0
 PointsFull ps = length ps ≡ 8
+
+abbrev pub StackFull : List ℕ → Type 0
+StackFull st = length st ≡ 33
 
 -- coordinate i
 abbrev pub coordinate : List ℤ → ℕ → ℤ
@@ -55,16 +59,35 @@ pub record Spread (r : Registers) (cs : List ℕ) : Type 0 where
   pub full : CellsFull cs
   pub reads : registers cs (points r) ≡ r
 
--- the stack's numbers, and the indices that they are
-abbrev pub numbers : List WordIndex → List ℕ
-numbers st = map (λ (i : WordIndex). i .0) st
+-- the numbers of 16 returns, how many repeats are open, and the numbers of eight repeats, two each
+abbrev pub spread : List Repeat → List ℕ
+spread [] = []
+spread (r ∷ rs) = r .start .0 ∷ r .left ∷ spread rs
 
+abbrev pub numbers : List WordIndex → ℕ → List Repeat → List ℕ
+numbers st n rs = map (λ (i : WordIndex). i .0) st ++ (n ∷ spread rs)
+
+-- what such numbers are: the returns, how many repeats are open, and the repeats
 abbrev pub indexed : List ℕ → List WordIndex
-indexed st = map (λ (n : ℕ). record { 0 = n }) st
+indexed ns = map (λ (n : ℕ). record { 0 = n }) ns
+
+abbrev pub paired : List ℕ → List Repeat
+paired [] = []
+paired (i ∷ []) = []
+paired (i ∷ n ∷ ns) = repeat (record { 0 = i }) n ∷ paired ns
+
+abbrev pub returns : List ℕ → List WordIndex
+returns st = indexed (take 16 st)
+
+abbrev pub nesting : List ℕ → ℕ
+nesting st = at st 16
+
+abbrev pub repeats : List ℕ → List Repeat
+repeats st = paired (drop 17 st)
 
 -- the environment that all of it stands for
 abbrev pub look : Bounds → List ℕ → List ℤ → List ℕ → List ℕ → Env
-look b cs ps vs st = view b (registers cs ps) vs (indexed st)
+look b cs ps vs st = view b (registers cs ps) vs (returns st) (nesting st) (repeats st)
 
 -- cells, or points, that show the environment with one thing changed, whatever else it holds
 pub record Recelled (f : Env → Env) (cs cs' : List ℕ) : Type 0 where
@@ -75,6 +98,11 @@ pub record Repointed (f : Env → Env) (ps ps' : List ℤ) : Type 0 where
   pub full : PointsFull ps'
   pub shows : (b : Bounds) (cs vs st : List ℕ) → look b cs ps' vs st ≡ f (look b cs ps vs st)
 
--- cells with the depth n, so that the first n of the stack are stacked
+-- cells with the depth n, so that the first n returns are stacked
 abbrev pub Deepened : ℕ → List ℕ → List ℕ → Type 0
-Deepened n cs cs' = CellsFull cs' × ((b : Bounds) (ps : List ℤ) (vs st : List ℕ) → look b cs' ps vs st ≡ stacked (firsts n (indexed st)) (look b cs ps vs st))
+Deepened n cs cs' = CellsFull cs' × ((b : Bounds) (ps : List ℤ) (vs st : List ℕ) → look b cs' ps vs st ≡ stacked (firsts start n (returns st)) (look b cs ps vs st))
+
+-- what is stacked stays, and of the repeats, as they are in rs, the first n are open
+pub record Nested (n : ℕ) (rs : List Repeat) (st st' : List ℕ) : Type 0 where
+  pub full : StackFull st'
+  pub shows : (b : Bounds) (cs : List ℕ) (ps : List ℤ) (vs : List ℕ) → look b cs ps vs st' ≡ repeating (firsts over n rs) (look b cs ps vs st)

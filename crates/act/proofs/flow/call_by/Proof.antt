@@ -10,7 +10,7 @@ pub call-by-spec : {M : Type 1} → statement M
 call-by-spec =
     tie.close (tie.spec
     (λ c. search needs) (λ c κs. search needs) (λ c. search needs) (λ c κs. search needs) (λ c κs. search needs)
-    (λ d. let c = d .before .before in passed-stacks _ (c .before .t .given .1) (d .stop .ensures) (c .before .before .before .pre .full))
+    (λ d. let c = d .before .before in passed-stacks _ (c .before .t .given .1) (d .stop .ensures) (c .before .before .before .pre .stack))
     (λ c.
     let a = c .before .before .before in
     let t = a .before .before in
