@@ -1,40 +1,17 @@
 /*
  * AFGIS display lists by documents 01 and 02, in plain C. The sections follow 01's, with one for 02's circles, one for its
- * line pattern, one for its origin and one for its lit dots; a sentence in quotation marks is one of these papers' own. The
- * condition numbers and the numbers of RTRN, XYORG and XYORGV come from document 004.
+ * line pattern, one for its origin, one for its repeat blocks and one for its lit dots; a sentence in quotation marks is one of
+ * these papers' own. The condition numbers and the numbers of RTRN, XYORG, XYORGV, RPT and ERPT come from document 004.
  */
 
 #include "afgis.h"
-
-/* ---- Numbers that come back ---- */
-
-enum {
-    ENDED = 0,
-    BUDGET_USED = 1,
-    BAD_SIZE = 10,
-    BAD_SCREEN = 11,
-    BAD_FIELD = 12,
-    LONG_LIST = 13,
-    LARGE_BUDGET = 14,
-    PAST_END = 20,
-    NO_OPCODE = 21,
-    CUT = 22,
-    NO_VARIABLE = 23,
-    NOT_ALLOWED = 24,
-    OUT_OF_RANGE = 25,
-    ZERO_DIVISOR = 26,
-    BAD_TARGET = 27,
-    STACK_FULL = 28,
-    STACK_EMPTY = 29
-};
+#include "numbers.h"
 
 /* What carrying out one opcode answers: this, or a number 20 to 29. */
 enum { DONE = 0 };
 
 /* The states of an environment besides 20 to 29. */
 enum { STATE_RUNNING = 0, STATE_ENDED = 1 };
-
-enum { MOST_WORDS = 65536, MOST_STEPS = 1000000, MOST_SIDE = 2048, VARIABLES = 64, RETURNS = 16, MOST_DOTS = 65536 };
 
 /* What an opcode works on. */
 struct machine {
@@ -78,6 +55,22 @@ static int stack_is_good(const struct afgis_env *env)
     return 1;
 }
 
+static int repeat_is_good(const struct afgis_repeat *repeat)
+{
+    return repeat->start <= MOST_WORDS && is_between(repeat->left, 1, MOST_PASSES);
+}
+
+/* "Up to eight open repeats, each a word index and 1 to 1,000 passes left, checked under 12." */
+static int repeats_are_good(const struct afgis_env *env)
+{
+    if (env->nesting > REPEATS)
+        return 0;
+    for (uint32_t i = 0; i < env->nesting; i++)
+        if (!repeat_is_good(&env->repeats[i]))
+            return 0;
+    return 1;
+}
+
 static int is_stopped(uint8_t state)
 {
     return is_between(state, PAST_END, STACK_EMPTY);
@@ -104,6 +97,7 @@ static int fields_are_good(const struct afgis_env *env)
         && fits_word(env->x0) && fits_word(env->y0) && fits_word(env->x1) && fits_word(env->y1)
         && env->counter <= MOST_WORDS
         && stack_is_good(env)
+        && repeats_are_good(env)
         && state_is_good(env->state)
         && place_is_good(env);
 }
@@ -896,6 +890,43 @@ static int origin_v(struct machine *m)
     return refusal != DONE ? refusal : set_origin(m, 2, v[0], v[1]);
 }
 
+/* ---- Opcodes of 02's T-09: repeat blocks ---- */
+
+/* "A count outside the range is 24"; "a ninth is 28". The word is read as signed, as LDIV's is. */
+static int open_repeat(struct machine *m)
+{
+    struct afgis_env *env = m->env;
+
+    if (is_cut(m, 2))
+        return CUT;
+    if (!is_between(signed_word_at(m, 1), 1, MOST_PASSES))
+        return NOT_ALLOWED;
+    if (env->nesting == REPEATS)
+        return STACK_FULL;
+    env->repeats[env->nesting] = (struct afgis_repeat){ env->counter + 2, word_at(m, 1) };
+    env->nesting++;
+    return done(m, 2);
+}
+
+/* "ERPT takes off one pass and goes back to the opcode behind its RPT if any is left, else closes the block"; "ERPT with none
+   open is 29". */
+static int end_pass(struct machine *m)
+{
+    struct afgis_env *env = m->env;
+    struct afgis_repeat *innermost;
+
+    if (env->nesting == 0)
+        return STACK_EMPTY;
+    innermost = &env->repeats[env->nesting - 1];
+    innermost->left--;
+    if (innermost->left > 0) {
+        env->counter = innermost->start;
+        return DONE;
+    }
+    env->nesting--;
+    return done(m, 1);
+}
+
 /* ---- Opcodes of the base: "one decision over the opcode word" ---- */
 
 static int carry_out(struct machine *m)
@@ -925,6 +956,7 @@ static int carry_out(struct machine *m)
     case 0x0034: return variable_form(m, COMPARE);   /* CPVV Vs Vd */
     case 0x0042: return count_by(m, -1);             /* DCRV V */
     case 0x0045: return variable_form(m, DIVIDE);    /* DIVV Vs Vd */
+    case 0x004F: return end_pass(m);                 /* ERPT */
     case 0x005D: return count_by(m, 1);              /* INCV V */
     case 0x0065: return load_word(m);                /* LDIV word Vd */
     case 0x0066: return long_form(m, LOAD);          /* LDIVL long Vd */
@@ -947,6 +979,7 @@ static int carry_out(struct machine *m)
     case 0x0091: return variable_form(m, OR);        /* ORVV Vs Vd */
     case 0x009E: return pixel(m);                    /* PIXEL x y */
     case 0x009F: return pixel_v(m);                  /* PIXELV Vi */
+    case 0x00B7: return open_repeat(m);              /* RPT count */
     case 0x00B9: return return_from_call(m);         /* RTRN */
     case 0x0100: return origin(m);                   /* XYORG x y */
     case 0x0101: return origin_v(m);                 /* XYORGV Vi */

@@ -5,6 +5,12 @@
 #include <stddef.h>
 #include <stdint.h>
 
+/* 02's T-09, an open repeat: "a word index and 1 to 1,000 passes left". */
+struct afgis_repeat {
+    uint32_t start;                     /* where its block begins: behind the RPT, 0 to 65,536 */
+    uint32_t left;
+};
+
 /* "The environment holds". */
 struct afgis_env {
     uint32_t width, height;             /* the screen's size, each 1 to 2,048 */
@@ -20,6 +26,8 @@ struct afgis_env {
     uint32_t counter;                   /* the program counter, 0 to 65,536 */
     uint32_t depth;                     /* how many return indices are stacked, 0 to 16 */
     uint32_t stack[16];                 /* those below depth: each 0 to 65,536 */
+    uint32_t nesting;                   /* how many repeats are open, 0 to 8 */
+    struct afgis_repeat repeats[8];     /* those below nesting count, the innermost last */
     uint8_t state;                      /* 0 running, 1 ended, 20 to 29 stopped with that number */
     uint32_t place;                     /* stopped: "the word index at fault", 0 to 65,536; else 0 */
 };
@@ -28,6 +36,12 @@ struct afgis_answer {
     int number;
     uint32_t place;                     /* 20 to 29: "the word index at fault"; "all other numbers carry 0" */
     uint32_t steps;
+};
+
+struct afgis_checked {
+    int number;
+    uint32_t place;                     /* 20 to 30: "the word index at fault"; "all other numbers carry 0" */
+    uint32_t steps;                     /* 0: "the steps needed to the EODL"; else 0 */
 };
 
 struct afgis_lit_dots {
@@ -42,6 +56,9 @@ int afgis_fresh(uint32_t width, uint32_t height, uint32_t left, uint32_t top, ui
 /* Runs a list: at most `budget` opcodes, painting on the screen and changing the environment. */
 struct afgis_answer afgis_run(const uint16_t *list, size_t words, uint8_t *screen, size_t bytes,
                               struct afgis_env *env, uint32_t budget);
+
+/* 02's T-09: whether a list surely finishes, and in how many steps: 0, or 13, 20 to 22, 24 or 28 to 31. */
+struct afgis_checked afgis_check(const uint16_t *list, size_t words);
 
 /* 02's T-04: how many dots of a dashed line light up, "from length in dots and pattern alone": 0 and the count, or 25 and 0. */
 struct afgis_lit_dots afgis_lit(uint32_t length, uint32_t pattern);
