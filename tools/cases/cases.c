@@ -78,7 +78,7 @@ static int set_field(char *line)
         { "ox", &env.origin_x }, { "oy", &env.origin_y },
         { "x0", &env.x0 }, { "y0", &env.y0 }, { "x1", &env.x1 }, { "y1", &env.y1 }, { "mode", &env.mode },
         { "pattern", &env.pattern }, { "first", &env.first }, { "second", &env.second }, { "counter", &env.counter },
-        { "depth", &env.depth }, { "place", &env.place },
+        { "depth", &env.depth }, { "place", &env.place }, { "nesting", &env.nesting },
     };
     char *name = next_word(&line);
     uint32_t value = (uint32_t)number(line);
@@ -91,6 +91,10 @@ static int set_field(char *line)
         env.variables[number(name + 1)] = (int32_t)value;
     else if (*name == 'S')
         env.stack[number(name + 1)] = value;
+    else if (*name == 'B')
+        env.repeats[number(name + 1)].start = value;
+    else if (*name == 'P')
+        env.repeats[number(name + 1)].left = value;
     else {
         for (size_t i = 0; i < sizeof fields / sizeof *fields; i++)
             if (is(name, fields[i].name)) {
@@ -170,6 +174,9 @@ static void run(void)
     printf("state %d place %u counter %u depth %u returns", env.state, env.place, env.counter, env.depth);
     for (uint32_t i = 0; i < env.depth && i < 16; i++)
         printf(" %u", env.stack[i]);
+    printf("\nnesting %u repeats", env.nesting);
+    for (uint32_t i = 0; i < env.nesting && i < 8; i++)
+        printf(" %u %u", env.repeats[i].start, env.repeats[i].left);
     printf("\n");
     for (int i = 0; i < 64; i++)
         if (env.variables[i] != 0)
@@ -177,7 +184,14 @@ static void run(void)
     print_screen();
 }
 
-/* ---- what lit dots print ---- */
+/* ---- what the checker and lit dots print ---- */
+
+static void check(void)
+{
+    struct afgis_checked checked = afgis_check(list, words);
+
+    printf("checked %d place %u steps %u\n", checked.number, checked.place, checked.steps);
+}
 
 static void count_lit(char *line)
 {
@@ -213,6 +227,8 @@ static int carry_out(char *line)
         take_list(line);
     else if (is(command, "run"))
         run();
+    else if (is(command, "check"))
+        check();
     else if (is(command, "lit"))
         count_lit(line);
     else
