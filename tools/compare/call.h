@@ -11,13 +11,14 @@ enum { MOST_WORDS = 65536, MOST_STEPS = 1000000, MOST_SIDE = 2048 };
 enum { LIST_ROOM = MOST_WORDS + 64, SCREEN_ROOM = MOST_SIDE * MOST_SIDE + 4 * MOST_SIDE };
 
 /* Whatever is counted belongs to one of these groups. A call has at most one member of each, but for those from CLEARINGS on:
-   those are counted for each CLRWIN, each line, each circle and each origin on its way. */
+   those are counted for each CLRWIN, each line, each circle, each origin and each repeat on its way. */
 enum group {
     CALLS, LISTS, ENVIRONMENTS, BROKEN_FIELDS, SIZES, PANES, WINDOWS, MODES, BUDGETS, SCREENS,
     DOOR_PAIRS, OPCODE_PAIRS, SLICED, SLICES, FRESH_CALLS, NUMBERS, PLACES, MISNAMED, CLEARINGS, LINES, HALVES, CUTS,
     DASH_OPCODES, DASH_PATTERNS, DASH_LENGTHS, DASHES_X_AHEAD, DASHES_X_BACK, DASHES_Y_AHEAD, DASHES_Y_BACK,
     REFUSED_LINES, LIT_LENGTHS, LIT_PATTERNS, LIT_RUNS, LIT_LINES, FILLED_CIRCLES, OUTLINES, REFUSED_CIRCLES,
     ORIGINS_SET, REFUSED_ORIGINS, ORIGINS, MOVED_SHAPES, SUMS, MOVED_WINDOWS, MODES_CHANGED,
+    OPEN_REPEATS, REPEAT_FIELDS, REPEATS_OPENED, COUNTS, REFUSED_REPEATS, WENT_BACK, CLOSED, PASSES, WITH_REPEATS, SLICED_REPEATS,
     GROUPS
 };
 
@@ -25,11 +26,14 @@ enum { CALL_WHOLE, CALL_SLICE, CALL_LARGER, CALL_MIXED, CALL_ALONE, CALL_KINDS }
 
 enum {
     LIST_EMPTY, LIST_OPCODE_WORD, LIST_RANDOM, LIST_VALID, LIST_DAMAGED, LIST_LOOP, LIST_ENDLESS, LIST_CALLS,
-    LIST_LINES, LIST_ORIGINS, LIST_LONGEST, LIST_TOO_LONG, LIST_PAST_32_BITS, LIST_TWO_REFUSALS, LIST_MISNAMED,
+    LIST_LINES, LIST_ORIGINS, LIST_REPEATS, LIST_LONGEST, LIST_TOO_LONG, LIST_PAST_32_BITS, LIST_TWO_REFUSALS, LIST_MISNAMED,
     LIST_KINDS
 };
 
 enum { ENV_FRESH, ENV_MID_RUN, ENV_CONTINUED, ENV_STOPPED, ENV_ENDED, ENV_BROKEN, ENV_KINDS };
+
+/* The last of the broken fields: of the repeats. */
+enum { BROKEN_NESTING = 21, BROKEN_START, BROKEN_NO_PASSES, BROKEN_PASSES_ABOVE };
 
 enum { SIZE_DOT, SIZE_SMALL, SIZE_MIDDLE, SIZE_LONG, SIZE_FULL, SIZE_KINDS };
 
@@ -40,7 +44,7 @@ enum {
 };
 
 enum {
-    BUDGET_NONE, BUDGET_ONE, BUDGET_FEW, BUDGET_ENOUGH, BUDGET_BEFORE_REFUSAL, BUDGET_LIMIT, BUDGET_ABOVE,
+    BUDGET_NONE, BUDGET_ONE, BUDGET_FEW, BUDGET_ENOUGH, BUDGET_MANY, BUDGET_BEFORE_REFUSAL, BUDGET_LIMIT, BUDGET_ABOVE,
     BUDGET_KINDS
 };
 
@@ -140,6 +144,28 @@ enum {
 /* The window under an origin: one of mode 1 as it is moved, by where it is on the screen, or, beyond a signed word, reaches it
    all the same; or one of mode 2. */
 enum { WINDOW_1_EMPTY, WINDOW_1_OFF, WINDOW_1_CUT, WINDOW_1_INSIDE, WINDOW_1_BEYOND_SEEN, WINDOW_2 };
+
+/* The repeats that an environment comes with, beside how many: either end of what is allowed, and what would be 12 were it not
+   past the nesting. */
+enum { FIELD_START_0, FIELD_START_65536, FIELD_LEFT_1, FIELD_LEFT_1000, FIELD_PAST_NESTING };
+
+/* An RPT that was carried out, by its count, beside how many are open then; and one that was refused, by its count or not. */
+enum { COUNT_1, COUNT_INSIDE, COUNT_1000 };
+enum {
+    REFUSED_REPEAT_CUT, REFUSED_COUNT_0, REFUSED_COUNT_1001, REFUSED_COUNT_7FFF, REFUSED_COUNT_8000, REFUSED_COUNT_FFFF,
+    REFUSED_COUNT_OTHER, REFUSED_REPEAT_NINTH
+};
+
+/* What an ERPT met, beside how many are open: it goes back with 1,000 left or with two, to itself, or behind the list; it closes
+   the block behind it; a return is stacked; none is open. */
+enum { PASS_OF_1000, PASS_OF_2, PASS_TO_ITSELF, PASS_BEHIND_LIST, PASS_INSIDE_CALL, PASS_NONE_OPEN };
+
+/* Other opcodes that were carried out with a repeat open: a jump to before the block, any other, calls, RTRN and EODL; and an RPT
+   whose own repeat was open already. */
+enum { INSIDE_JUMP_BEFORE, INSIDE_JUMP, INSIDE_CALL, INSIDE_RETURN, INSIDE_END, INSIDE_SAME_REPEAT };
+
+/* Where a slice of a budget ended with a repeat open: anywhere, where the block begins, before its ERPT. */
+enum { SLICE_INSIDE, SLICE_AT_START, SLICE_BEFORE_ERPT };
 
 enum { NOT_OF_A_KIND = -1, NO_EXPECTATION = -1 };
 

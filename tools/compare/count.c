@@ -7,8 +7,11 @@
 #include "lines.h"
 #include "origins.h"
 #include "places.h"
+#include "repeats.h"
 
-enum { MOST_MEMBERS = 24, STEPS_FOLLOWED = 200 };
+enum { MOST_MEMBERS = 26, STEPS_FOLLOWED = 200 };
+
+#define NESTINGS "1", "2", "3", "4", "5", "6", "7", "8"
 
 #define PATTERNS "00000000", "FFFFFFFF", "00000001", "80000000", "other"
 
@@ -22,21 +25,22 @@ static const struct {
     [CALLS] = { "calls", { "whole", "slice", "larger budget", "two panes mixed", "one pane alone" } },
     [LISTS] = { "lists", { "empty", "each opcode word", "random words", "valid opcodes", "one word damaged", "loops",
                            "endless loops", "calls near the limits", "patterns and lines", "origins and shapes",
-                           "longest", "too long", "2^32 words too long", "two refusals at once", "a variable above 63" } },
+                           "repeats", "longest", "too long", "2^32 words too long", "two refusals at once", "a variable above 63" } },
     [ENVIRONMENTS] = { "environments", { "fresh", "mid-run", "continued", "stopped", "ended", "broken" } },
     [BROKEN_FIELDS] = { "broken fields", { "width", "height", "left", "top", "right", "bottom", "x", "y", "ox", "oy",
                                            "x0", "y0", "x1", "y1", "mode", "counter", "depth", "stack", "state",
-                                           "place where stopped", "place where not" } },
+                                           "place where stopped", "place where not", "nesting",
+                                           "a repeat's start", "a repeat of no passes", "a repeat's passes" } },
     [SIZES] = { "screen sizes", { "one dot", "small", "middle", "a side of 2048", "2048 x 2048" } },
     [PANES] = { "panes", { "whole screen", "part", "one row or column", "one dot" } },
     [WINDOWS] = { "windows", { "whole screen", "part", "one dot", "empty", "outside", "widest", "any words" } },
     [MODES] = { "clip modes", { "0", "1", "2" } },
-    [BUDGETS] = { "budgets", { "0", "1", "2 to 8", "9 to 200", "up to a refusal", "1000000", "above" } },
+    [BUDGETS] = { "budgets", { "0", "1", "2 to 8", "9 to 200", "201 to 3000", "up to a refusal", "1000000", "above" } },
     [SCREENS] = { "screen lengths", { "right", "one short", "one more", "none", "other", "2^32 more" } },
     [DOOR_PAIRS] = { "door pairs", { "10+11", "10+12", "10+13", "10+14", "11+12", "11+13", "11+14", "12+13", "12+14",
                                      "13+14" } },
     [OPCODE_PAIRS] = { "opcode pairs", { "22+23", "22+24", "22+25", "22+26", "22+28", "23+24", "23+25", "23+26",
-                                         "23+28", "24+25", "24+27", "27+28" } },
+                                         "23+28", "24+25", "24+27", "24+28", "27+28" } },
     [SLICED] = { "run in slices", { "ends", "runs on", "is stopped", "had ended", "was stopped", "10", "11", "12",
                                     "13" } },
     [SLICES] = { "slices", { "of 1", "of 7", "of 0 to 12" } },
@@ -86,6 +90,18 @@ static const struct {
                                                      "mode 1 inside the screen", "mode 1 beyond a word, on the screen",
                                                      "mode 2" } },
     [MODES_CHANGED] = { "modes changed under an origin", { "0 to 1", "0 to 2", "1 to 0", "1 to 2", "2 to 0", "2 to 1" } },
+    [OPEN_REPEATS] = { "repeats of the environment", { "0", NESTINGS } },
+    [REPEAT_FIELDS] = { "their fields", { "start 0", "start 65536", "left 1", "left 1000", "out of range past the nesting" } },
+    [REPEATS_OPENED] = { "RPT, then open", { NESTINGS } },
+    [COUNTS] = { "RPT by count", { "1", "2 to 999", "1000" } },
+    [REFUSED_REPEATS] = { "RPT refused", { "22", "24 count 0", "24 count 1001", "24 count 7FFF", "24 count 8000",
+                                           "24 count FFFF", "24 other count", "28" } },
+    [WENT_BACK] = { "ERPT back, open", { NESTINGS } },
+    [CLOSED] = { "ERPT closes, open before", { NESTINGS } },
+    [PASSES] = { "ERPT", { "back of 1000", "back of 2", "back to itself", "back behind the list", "inside a call", "29" } },
+    [WITH_REPEATS] = { "with a repeat open", { "jump to before its block", "other jump", "call", "RTRN", "EODL",
+                                               "its RPT again" } },
+    [SLICED_REPEATS] = { "slices that end", { "with a repeat open", "where its block begins", "before an ERPT" } },
 };
 
 static uint64_t kinds_met[GROUPS][MOST_MEMBERS];
@@ -156,6 +172,7 @@ static void count_forms(const struct call *call)
 
     to_reference(&call->env, &env);
     count_first_origin(&env);
+    count_open_repeats(&env);
     for (uint32_t step = 0; answer.number == 1 && step < call->budget && step < STEPS_FOLLOWED; step++) {
         before = env;
         answer = afgis_run(call->list, call->words, scratch, call->bytes, &env, 1);
@@ -165,6 +182,7 @@ static void count_forms(const struct call *call)
             count_circle(call->list + before.counter, &before, answer);
             count_dash(call->list + before.counter, &before, &env, answer);
             count_origin(call->list + before.counter, &before, &env, answer);
+            count_repeat(call->list + before.counter, &before, &env, answer);
         }
         if (answer.number == 23)
             count_misnamed(call->list + before.counter);

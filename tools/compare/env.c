@@ -28,6 +28,7 @@ static const struct {
     [SECOND] = { "second", offsetof(struct ovenlute_env, registers.second), SIGNED_32 },
     [COUNTER] = { "counter", offsetof(struct ovenlute_env, registers.counter), UNSIGNED_32 },
     [DEPTH] = { "depth", offsetof(struct ovenlute_env, registers.depth), UNSIGNED_32 },
+    [NESTING] = { "nesting", offsetof(struct ovenlute_env, nesting), UNSIGNED_32 },
     [PLACE] = { "place", offsetof(struct ovenlute_env, registers.place), UNSIGNED_32 },
     [COLOUR] = { "colour", offsetof(struct ovenlute_env, registers.colour), UNSIGNED_8 },
     [STATE] = { "state", offsetof(struct ovenlute_env, registers.state), UNSIGNED_8 },
@@ -78,13 +79,19 @@ uint32_t stacked(const struct ovenlute_env *env)
     return env->registers.depth <= RETURNS ? env->registers.depth : RETURNS;
 }
 
+uint32_t repeated(const struct ovenlute_env *env)
+{
+    return env->nesting <= REPEATS ? env->nesting : REPEATS;
+}
+
 int same_env(const struct ovenlute_env *a, const struct ovenlute_env *b)
 {
     for (enum field field = 0; field < FIELDS; field++)
         if (get_field(a, field) != get_field(b, field))
             return 0;
     return memcmp(a->variables, b->variables, sizeof a->variables) == 0
-        && memcmp(a->stack, b->stack, stacked(a) * sizeof a->stack[0]) == 0;
+        && memcmp(a->stack, b->stack, stacked(a) * sizeof a->stack[0]) == 0
+        && memcmp(a->repeats, b->repeats, repeated(a) * sizeof a->repeats[0]) == 0;
 }
 
 void fresh_env(struct ovenlute_env *env, uint32_t width, uint32_t height, struct ovenlute_pane pane)
@@ -97,6 +104,14 @@ void fresh_env(struct ovenlute_env *env, uint32_t width, uint32_t height, struct
     env->registers.window.y1 = (int32_t)height - 1;
     env->registers.colour = 15;
     env->registers.pattern = UINT32_MAX;
+}
+
+int is_fresh(const struct ovenlute_env *env)
+{
+    struct ovenlute_env fresh;
+
+    fresh_env(&fresh, env->bounds.width, env->bounds.height, env->bounds.pane);
+    return same_env(env, &fresh);
 }
 
 void to_reference(const struct ovenlute_env *from, struct afgis_env *to)
@@ -124,10 +139,13 @@ void to_reference(const struct ovenlute_env *from, struct afgis_env *to)
     to->second = registers->second;
     to->counter = registers->counter;
     to->depth = registers->depth;
+    to->nesting = from->nesting;
     to->state = registers->state;
     to->place = registers->place;
     memcpy(to->variables, from->variables, sizeof to->variables);
     memcpy(to->stack, from->stack, sizeof to->stack);
+    for (int i = 0; i < REPEATS; i++)
+        to->repeats[i] = (struct afgis_repeat){ from->repeats[i].start, from->repeats[i].left };
 }
 
 void from_reference(const struct afgis_env *from, struct ovenlute_env *to)
@@ -155,8 +173,11 @@ void from_reference(const struct afgis_env *from, struct ovenlute_env *to)
     registers->second = from->second;
     registers->counter = from->counter;
     registers->depth = from->depth;
+    to->nesting = from->nesting;
     registers->state = from->state;
     registers->place = from->place;
     memcpy(to->variables, from->variables, sizeof to->variables);
     memcpy(to->stack, from->stack, sizeof to->stack);
+    for (int i = 0; i < REPEATS; i++)
+        to->repeats[i] = (struct ovenlute_repeat){ from->repeats[i].start, from->repeats[i].left };
 }

@@ -26,6 +26,8 @@ const struct form forms[FORMS] = {
     { 0x010E, "CALR", "r", "", "278" },
     { 0x010F, "CALRV", "i", "r", "2378" },
     { 0x00B9, "RTRN", "", "", "9" },
+    { 0x00B7, "RPT", "P", "", "248" },
+    { 0x004F, "ERPT", "", "", "9" },
     { 0x0016, "CLIPMODE", "m", "", "24" },
     { 0x0017, "CLIPMODEV", "i", "m", "234" },
     { 0x0018, "CLIPWIN", "xyxy", "", "2" },

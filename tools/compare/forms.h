@@ -1,5 +1,5 @@
-/* The 47 forms of document 01's base and 02's eight, of circles, of the line pattern and of the origin, as the makers of lists
-   and the counts need them. */
+/* The 47 forms of document 01's base and 02's ten, of circles, of the line pattern, of the origin and of repeats, as the makers
+   of lists and the counts need them. */
 #ifndef FORMS_H
 #define FORMS_H
 
@@ -10,7 +10,7 @@
  * c condition, a bit address (long), r offset in words, m mode,
  * x and y coordinates, d offset in dots, o colour (long), p line pattern (long),
  * t a line's type, e and f its first point, across and down, g and j its second, s and z the way from the one to the other,
- * u a circle's type, h and k its centre, across and down, q its radius, b and n the origin, across and down.
+ * u a circle's type, h and k its centre, across and down, q its radius, b and n the origin, across and down, P a repeat's passes.
  */
 struct form {
     uint16_t opcode;
@@ -20,7 +20,7 @@ struct form {
     const char *refusals;  /* which of 22 to 29 it can meet: their last digits */
 };
 
-enum { FORMS = 55 };
+enum { FORMS = 57 };
 
 extern const struct form forms[FORMS];
 

@@ -15,6 +15,8 @@ static void make_budget(struct call *call, int is_straight)
 {
     if (call->kinds[LISTS] == LIST_ENDLESS || (is_straight && one_in(8)))
         set_budget(call, BUDGET_LIMIT, MOST_STEPS);
+    else if (call->kinds[LISTS] == LIST_REPEATS && one_in(24))
+        set_budget(call, BUDGET_MANY, (uint32_t)between(201, 3000));
     else if (one_in(24))
         set_budget(call, BUDGET_NONE, 0);
     else if (one_in(12))

@@ -61,6 +61,13 @@ uint32_t make_pattern(void);
 /* A radius that isn't allowed; its low word may be. */
 int32_t bad_radius(void);
 
+/* An RPT's count: mostly small, at times near an edge, or one that isn't allowed. */
+int32_t make_count(void);
+int32_t bad_count(void);
+
+/* An open repeat in range whose block begins there; its passes are mostly few. */
+struct ovenlute_repeat make_repeat(uint32_t start);
+
 /* Screen size, pane, window and all other fields in range; `is_far` allows points far off the screen. */
 void make_env(struct call *call, int is_far);
 

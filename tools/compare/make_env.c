@@ -222,6 +222,8 @@ static void make_registers(struct call *call, int is_far)
         env->variables[i] = make_variable(env, is_far);
     for (int i = 0; i < RETURNS; i++)
         env->stack[i] = random_bits();
+    for (int i = 0; i < REPEATS; i++)
+        env->repeats[i] = (struct ovenlute_repeat){ random_bits(), one_in(4) ? 0 : random_bits() };
 }
 
 static int make_env_kind(void)
@@ -293,6 +295,20 @@ static uint32_t bad_depth(void)
     return choose(depths, sizeof depths / sizeof depths[0]);
 }
 
+static uint32_t bad_nesting(void)
+{
+    static const uint32_t nestings[] = { 9, 10, 16, 255, 256, 65536, 0x80000000, UINT32_MAX };
+
+    return choose(nestings, sizeof nestings / sizeof nestings[0]);
+}
+
+static uint32_t bad_passes(void)
+{
+    static const uint32_t passes[] = { 1001, 1002, 65535, 65536, 65537, 0x80000000, 0x80000001, UINT32_MAX };
+
+    return choose(passes, sizeof passes / sizeof passes[0]);
+}
+
 static uint32_t bad_state(void)
 {
     static const uint32_t states[] = { 2, 3, 10, 19, 30, 31, 128, 255 };
@@ -314,6 +330,24 @@ static void break_stack(struct ovenlute_env *env)
     for (uint32_t i = 0; i < env->registers.depth; i++)
         env->stack[i] = below(MOST_WORDS + 1);
     env->stack[below(env->registers.depth)] = bad_index();
+}
+
+/* The repeat that is broken must lie below the nesting, and no other is. */
+static void break_repeats(struct ovenlute_env *env, int member)
+{
+    struct ovenlute_repeat *broken;
+
+    if (env->nesting == 0)
+        env->nesting = (uint32_t)between(1, REPEATS);
+    for (int i = 0; i < REPEATS; i++)
+        env->repeats[i] = make_repeat(below(MOST_WORDS + 1));
+    broken = &env->repeats[below(env->nesting)];
+    if (member == BROKEN_NESTING)
+        env->nesting = bad_nesting();
+    else if (member == BROKEN_START)
+        broken->start = bad_index();
+    else
+        broken->left = member == BROKEN_NO_PASSES ? 0 : bad_passes();
 }
 
 /* A place past the longest list, or one where there is none to keep. */
@@ -357,7 +391,7 @@ static void break_pane(struct ovenlute_bounds *bounds, int side)
 void break_field(struct call *call)
 {
     struct ovenlute_env *env = &call->env;
-    int member = between(2, 20);
+    int member = between(2, BROKEN_PASSES_ABOVE);
 
     call->kinds[ENVIRONMENTS] = ENV_BROKEN;
     call->kinds[BROKEN_FIELDS] = member;
@@ -375,8 +409,10 @@ void break_field(struct call *call)
         break_stack(env);
     else if (member == 18)
         env->registers.state = (uint8_t)bad_state();
-    else
+    else if (member < BROKEN_NESTING)
         break_place(&env->registers, member == 19);
+    else
+        break_repeats(env, member);
 }
 
 /* ---- fresh environments and two panes ---- */

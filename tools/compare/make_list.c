@@ -209,7 +209,8 @@ static int make_list_kind(void)
     static const int kinds[] = {
         LIST_VALID, LIST_VALID, LIST_VALID, LIST_VALID, LIST_VALID, LIST_VALID, LIST_VALID, LIST_DAMAGED,
         LIST_DAMAGED, LIST_DAMAGED, LIST_RANDOM, LIST_RANDOM, LIST_LOOP, LIST_LOOP, LIST_CALLS, LIST_CALLS,
-        LIST_LINES, LIST_LINES, LIST_LINES, LIST_ORIGINS, LIST_ORIGINS, LIST_ORIGINS,
+        LIST_LINES, LIST_LINES, LIST_LINES, LIST_ORIGINS, LIST_ORIGINS, LIST_ORIGINS, LIST_REPEATS, LIST_REPEATS,
+        LIST_REPEATS, LIST_REPEATS,
     };
 
     if (one_in(100))
@@ -248,6 +249,9 @@ static void put_list(struct sketch *sketch, int kind)
     case LIST_ORIGINS:
         put_origins(sketch);
         break;
+    case LIST_REPEATS:
+        put_repeats(sketch);
+        break;
     default:
         put_longest(sketch);
     }
@@ -268,6 +272,17 @@ static uint32_t make_index(const struct sketch *sketch)
     return index <= MOST_WORDS ? index : MOST_WORDS;
 }
 
+/* Repeats that were opened here or elsewhere. */
+static void place_repeats(struct sketch *sketch)
+{
+    struct ovenlute_env *env = &sketch->call->env;
+
+    if (one_in(2))
+        env->nesting = one_in(3) ? REPEATS - below(2) : below(REPEATS + 1);
+    for (uint32_t i = 0; i < env->nesting; i++)
+        env->repeats[i] = make_repeat(one_in(32) ? 0 : make_index(sketch));
+}
+
 static void place_counter(struct sketch *sketch)
 {
     struct ovenlute_env *env = &sketch->call->env;
@@ -278,6 +293,16 @@ static void place_counter(struct sketch *sketch)
         env->registers.depth = one_in(2) ? (uint32_t)between(14, RETURNS) : below(RETURNS + 1);
     for (uint32_t i = 0; i < env->registers.depth; i++)
         env->stack[i] = make_index(sketch);
+    place_repeats(sketch);
+}
+
+/* Some word may be an RPT or an ERPT. */
+static int may_repeat(const struct call *call)
+{
+    for (size_t i = 0; i < call->words; i++)
+        if (call->list[i] == 0x00B7 || call->list[i] == 0x004F)
+            return 1;
+    return 0;
 }
 
 int make_list(struct call *call, int is_far)
@@ -292,7 +317,7 @@ int make_list(struct call *call, int is_far)
         damage(call);
     if (call->kinds[ENVIRONMENTS] != ENV_FRESH)
         place_counter(&sketch);
-    return call->kinds[LISTS] == LIST_VALID && sketch.jumps == 0;
+    return call->kinds[LISTS] == LIST_VALID && sketch.jumps == 0 && !may_repeat(call);
 }
 
 void make_list_of_word(struct call *call, uint16_t word)

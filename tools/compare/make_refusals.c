@@ -68,6 +68,13 @@ static void fill_stack(struct call *call)
         call->env.stack[i] = below(MOST_WORDS + 1);
 }
 
+static void fill_repeats(struct call *call)
+{
+    call->env.nesting = REPEATS;
+    for (int i = 0; i < REPEATS; i++)
+        call->env.repeats[i] = make_repeat(below(MOST_WORDS + 1));
+}
+
 /* From here an offset of two or more leads out of range. */
 static void move_to_edge(struct call *call)
 {
@@ -133,13 +140,14 @@ static void make_22_26(struct call *call)
     put(call, (int32_t)zero_variable(call));
 }
 
-/* A call with a full stack that lacks its last word. */
+/* A call with a full stack, or an RPT with eight open, that lacks its last word. */
 static void make_22_28(struct call *call)
 {
-    static const uint16_t calls[] = { 0x000E, 0x000F, 0x010E, 0x010F };
+    static const uint16_t opcodes[] = { 0x000E, 0x000F, 0x010E, 0x010F, 0x00B7 };
 
     fill_stack(call);
-    put_one_of(call, calls, 4);
+    fill_repeats(call);
+    put_one_of(call, opcodes, 5);
 }
 
 /* A wrong type in Vi, and followers above 63. */
@@ -245,6 +253,14 @@ static void make_24_27(struct call *call)
     }
 }
 
+/* A wrong count and eight open. */
+static void make_24_28(struct call *call)
+{
+    fill_repeats(call);
+    put(call, 0x00B7);
+    put(call, bad_count());
+}
+
 /* A target that isn't allowed and a full stack. */
 static void make_27_28(struct call *call)
 {
@@ -274,7 +290,7 @@ static const struct {
 } pairs[] = {
     { 22, make_22_23 }, { 22, make_22_24 }, { 22, make_22_25 }, { 22, make_22_26 }, { 22, make_22_28 },
     { 23, make_23_24 }, { 23, make_23_25 }, { 23, make_23_26 }, { 23, make_23_28 },
-    { 24, make_24_25 }, { 24, make_24_27 }, { 27, make_27_28 },
+    { 24, make_24_25 }, { 24, make_24_27 }, { 24, make_24_28 }, { 27, make_27_28 },
 };
 
 /* Some opcodes that do nothing, before the one that is to be refused; returns how many. */

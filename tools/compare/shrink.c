@@ -216,6 +216,28 @@ static int shrink_stack(struct call *call)
     return changed;
 }
 
+static int try_repeat(struct call *call, uint32_t number, uint32_t start, uint32_t left)
+{
+    const struct ovenlute_repeat *repeat = &call->env.repeats[number];
+
+    copy_call(&trial, call);
+    trial.env.repeats[number] = (struct ovenlute_repeat){ start, left };
+    return (repeat->start != start || repeat->left != left) && take_over(call);
+}
+
+/* Each begins at word 0, has one pass left, or half as many. */
+static int shrink_repeats(struct call *call)
+{
+    int changed = 0;
+
+    for (uint32_t i = 0; i < repeated(&call->env); i++) {
+        const struct ovenlute_repeat *repeat = &call->env.repeats[i];
+        changed |= try_repeat(call, i, 0, repeat->left);
+        changed |= try_repeat(call, i, repeat->start, 1) || try_repeat(call, i, repeat->start, repeat->left / 2);
+    }
+    return changed;
+}
+
 static int try_field(struct call *call, enum field field, int64_t value)
 {
     copy_call(&trial, call);
@@ -237,6 +259,7 @@ static int shrink_env(struct call *call)
     }
     changed |= shrink_variables(call);
     changed |= shrink_stack(call);
+    changed |= shrink_repeats(call);
     return changed;
 }
 
@@ -276,6 +299,16 @@ static void print_list(const struct call *call)
     printf("%s\n", call->words > WORDS_SHOWN ? " ..." : "");
 }
 
+/* The open repeats that another environment doesn't have there. */
+static void print_repeats(const struct ovenlute_env *env, const struct ovenlute_env *other)
+{
+    for (uint32_t i = 0; i < repeated(env); i++) {
+        const struct ovenlute_repeat *repeat = &env->repeats[i];
+        if (i >= repeated(other) || memcmp(repeat, &other->repeats[i], sizeof *repeat) != 0)
+            printf(" repeat[%u] from %u, %u left", (unsigned)i, (unsigned)repeat->start, (unsigned)repeat->left);
+    }
+}
+
 /* The fields of an environment in which it isn't as another. */
 static void print_fields(const struct ovenlute_env *env, const struct ovenlute_env *other)
 {
@@ -288,6 +321,7 @@ static void print_fields(const struct ovenlute_env *env, const struct ovenlute_e
     for (uint32_t i = 0; i < stacked(env); i++)
         if (env->stack[i] != (i < stacked(other) ? other->stack[i] : 0))
             printf(" stack[%u] %u", (unsigned)i, (unsigned)env->stack[i]);
+    print_repeats(env, other);
     printf("\n");
 }
 

@@ -117,6 +117,8 @@ static int32_t make_value(const struct sketch *sketch, char letter)
         return one_in(12) ? edge_value() : 0;
     case 'p':
         return (int32_t)make_pattern();
+    case 'P':
+        return make_count();
     case 'x':
         return before_origin(make_coordinate(bounds->width, sketch->is_far), sketch->aim.x);
     case 'y':

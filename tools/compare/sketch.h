@@ -47,6 +47,9 @@ void put_end(struct sketch *sketch);
 /* A condition of a jump, now and then one that isn't allowed. */
 int32_t make_condition(void);
 
+/* Blocks between RPT and ERPT, in one another and in each other's way, without their targets. */
+void put_repeats(struct sketch *sketch);
+
 /* Fills in the targets. */
 void settle_targets(struct sketch *sketch);
 

@@ -3,6 +3,7 @@
 #include "libc.h"
 #include "make.h"
 #include "random.h"
+#include "repeats.h"
 #include "shrink.h"
 #include "slices.h"
 
@@ -50,6 +51,8 @@ static void add_call(struct sum *sum, uint32_t budget)
     sum->place = verdict.box.place;
     sum->steps += verdict.box.steps;
     go_on(&sum->call, &verdict);
+    if (sum->number == 1 && sum->call.kinds[CALLS] == CALL_SLICE)
+        count_sliced_repeat(&sum->call);
 }
 
 static uint32_t next_slice(int kind)
