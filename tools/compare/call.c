@@ -11,4 +11,5 @@ void copy_call(struct call *to, const struct call *from)
     to->env = from->env;
     to->budget = from->budget;
     to->expected = from->expected;
+    to->expected_check = from->expected_check;
 }

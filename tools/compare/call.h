@@ -19,6 +19,7 @@ enum group {
     REFUSED_LINES, LIT_LENGTHS, LIT_PATTERNS, LIT_RUNS, LIT_LINES, FILLED_CIRCLES, OUTLINES, REFUSED_CIRCLES,
     ORIGINS_SET, REFUSED_ORIGINS, ORIGINS, MOVED_SHAPES, SUMS, MOVED_WINDOWS, MODES_CHANGED,
     OPEN_REPEATS, REPEAT_FIELDS, REPEATS_OPENED, COUNTS, REFUSED_REPEATS, WENT_BACK, CLOSED, PASSES, WITH_REPEATS, SLICED_REPEATS,
+    PROFILES, CHECKED, CHECKED_STEPS, CHECKED_DEPTHS, CHECKED_ENDS, CHECKED_21, CHECKED_CUTS, CHECKED_COUNTS, CHECKED_RUNS,
     GROUPS
 };
 
@@ -27,7 +28,7 @@ enum { CALL_WHOLE, CALL_SLICE, CALL_LARGER, CALL_MIXED, CALL_ALONE, CALL_KINDS }
 enum {
     LIST_EMPTY, LIST_OPCODE_WORD, LIST_RANDOM, LIST_VALID, LIST_DAMAGED, LIST_LOOP, LIST_ENDLESS, LIST_CALLS,
     LIST_LINES, LIST_ORIGINS, LIST_REPEATS, LIST_LONGEST, LIST_TOO_LONG, LIST_PAST_32_BITS, LIST_TWO_REFUSALS, LIST_MISNAMED,
-    LIST_KINDS
+    LIST_PROFILE, LIST_KINDS
 };
 
 enum { ENV_FRESH, ENV_MID_RUN, ENV_CONTINUED, ENV_STOPPED, ENV_ENDED, ENV_BROKEN, ENV_KINDS };
@@ -167,6 +168,39 @@ enum { INSIDE_JUMP_BEFORE, INSIDE_JUMP, INSIDE_CALL, INSIDE_RETURN, INSIDE_END, 
 /* Where a slice of a budget ended with a repeat open: anywhere, where the block begins, before its ERPT. */
 enum { SLICE_INSIDE, SLICE_AT_START, SLICE_BEFORE_ERPT };
 
+/* What a list of T-09's profile was made to be: sound, eight blocks deep, or cut at a word; with a fault, or with another one
+   behind it; of a million steps, of one more, of so many that 32 or 64 bits would not hold them, or of too many and a fault;
+   with words behind its EODL; or of 65,536 words. */
+enum {
+    PROFILE_SOUND, PROFILE_DEEPEST, PROFILE_CUT, PROFILE_FAULT, PROFILE_TWO_FAULTS, PROFILE_MILLION, PROFILE_ONE_MORE,
+    PROFILE_PAST_32_BITS, PROFILE_PAST_64_BITS, PROFILE_MANY_AND_FAULT, PROFILE_WORDS_BEHIND, PROFILE_LONGEST, PROFILE_TOO_LONG
+};
+
+/* What was said of a list: the number; of a sound one its steps, beside how deep its blocks are, and whether its EODL is the last
+   word. */
+enum { STEPS_1, STEPS_TO_1000, STEPS_ABOVE_1000, STEPS_MILLION };
+enum { EODL_LAST, EODL_LAST_OF_LONGEST, EODL_AND_WORDS };
+
+/* What a 21 was met at: no opcode, or one that is foreign, whole or cut; and one of these inside a block. */
+enum { FOREIGN_NONE, FOREIGN_JUMP, FOREIGN_CALL, FOREIGN_RETURN, FOREIGN_JUMP_CUT, FOREIGN_CALL_CUT, FOREIGN_INSIDE };
+
+/* Where a list ended too soon: 20 with no word, outside all blocks, right behind an RPT or elsewhere in a block; 22 inside an RPT, or
+   the ninth, or inside another opcode, in a block or not. */
+enum {
+    CUT_NO_WORDS, CUT_OUTSIDE, CUT_BEHIND_RPT, CUT_INSIDE, CUT_RPT, CUT_NINTH_RPT, CUT_OPCODE, CUT_OPCODE_INSIDE, CUT_AT_65535,
+    CUT_AT_65536
+};
+
+/* The counts that 24 was told of are those of a run, and behind them one of a ninth RPT. */
+enum { CHECKED_COUNT_OF_NINTH = REFUSED_COUNT_OTHER - REFUSED_COUNT_0 + 1 };
+
+/* How a run from a fresh environment went: in exactly the steps told, a million or fewer, short of them, stopped sooner by 23 to 26; refused with the
+   number told, at the same place, sooner by 23 to 26, or not within the budget; or on and on where the steps are too many. */
+enum {
+    RUN_ENDS, RUN_ENDS_IN_MILLION, RUN_SHORT, RUN_STOPS_23, RUN_REFUSED_20 = RUN_STOPS_23 + 4, RUN_REFUSED_22, RUN_REFUSED_24, RUN_REFUSED_28,
+    RUN_REFUSED_29, RUN_REFUSED_SOONER, RUN_NOT_YET, RUN_ON_AND_ON
+};
+
 enum { NOT_OF_A_KIND = -1, NO_EXPECTATION = -1 };
 
 struct call {
@@ -177,6 +211,7 @@ struct call {
     struct ovenlute_env env;
     uint32_t budget;
     int expected;        /* the number that must come back where the maker knows it */
+    int expected_check;  /* the number that the checker must tell of the list, the same way */
     int kinds[GROUPS];
 };
 

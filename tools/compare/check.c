@@ -1,4 +1,5 @@
 #include "check.h"
+#include "checked.h"
 #include "count.h"
 #include "libc.h"
 #include "shrink.h"
@@ -31,6 +32,8 @@ void check_call(const struct call *call, struct verdict *verdict)
 {
     judge(call, verdict);
     count_call(call, verdict->box.number, verdict->box.place);
+    if (verdict->difference == NULL)
+        count_checked(call, &verdict->box, verdict->checked);
     if (verdict->difference != NULL && is_shown()) {
         show_smallest(call);
         judge(call, verdict);

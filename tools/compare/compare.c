@@ -37,6 +37,18 @@ static void check_opcode_words(void)
     }
 }
 
+/* "The list ends": a sound list cut at every word. */
+static void check_cuts(void)
+{
+    static struct call call;
+    struct verdict verdict;
+
+    for (make_call_to_cut(&call); call.words > 0;) {
+        call.words--;
+        check_call(&call, &verdict);
+    }
+}
+
 static void check_fresh(void)
 {
     struct request request;
@@ -77,8 +89,8 @@ static int step_side(struct side *side, struct side *other, uint32_t budget)
     struct verdict verdict;
     struct outcome mixed;
 
-    set_slice(&side->mixed, budget);
-    set_slice(&side->alone, budget);
+    set_budget(&side->mixed, budget);
+    set_budget(&side->alone, budget);
     check_call(&side->mixed, &verdict);
     mixed = verdict.box;
     go_on(&side->mixed, &verdict);
@@ -145,6 +157,7 @@ static void check_huge_call(const struct call *call, uint8_t *room, size_t words
     uint8_t *screen = room + 3 * PAST_32_BITS;
     struct ovenlute_env env = call->env;
     struct ovenlute_done done = ovenlute_run(list, words, screen, bytes, &env, call->budget);
+    struct ovenlute_checked checked = ovenlute_check(list, words);
     struct afgis_env reference_env;
     struct afgis_answer answer;
     int is_right;
@@ -153,7 +166,8 @@ static void check_huge_call(const struct call *call, uint8_t *room, size_t words
     answer = afgis_run(list, words, screen, bytes, &reference_env, call->budget);
     count_call(call, done.number, done.place);
     is_right = done.number == number && done.place == 0 && done.steps == 0 && same_env(&env, &call->env)
-        && answer.number == number && answer.place == 0;
+        && answer.number == number && answer.place == 0
+        && checked.number == afgis_check(list, words).number;
     if (!is_right && is_shown())
         printf("difference: %llu words and %llu bytes: box %d, reference %d, wanted %d\n", (unsigned long long)words,
                (unsigned long long)bytes, done.number, answer.number, number);
@@ -187,6 +201,8 @@ static void check_something(void)
         check_slices();
     else if (one_in(120))
         check_two_panes();
+    else if (one_in(400))
+        check_cuts();
     else
         check_whole_call();
 }

@@ -60,6 +60,20 @@ const struct form forms[FORMS] = {
     { 0x0189, "CLRWINV", "i", "ow", "23" },
 };
 
+int is_long(char operand)
+{
+    return operand == 'l' || operand == 'a' || operand == 'o' || operand == 'p';
+}
+
+uint32_t form_words(const struct form *form)
+{
+    uint32_t words = 1;
+
+    for (const char *operand = form->operands; *operand; operand++)
+        words += is_long(*operand) ? 2 : 1;
+    return words;
+}
+
 int form_of(uint16_t opcode)
 {
     for (int i = 0; i < FORMS; i++)

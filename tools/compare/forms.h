@@ -24,6 +24,12 @@ enum { FORMS = 57 };
 
 extern const struct form forms[FORMS];
 
+/* An operand of this letter in the list is two words. */
+int is_long(char operand);
+
+/* The opcode and its operands. */
+uint32_t form_words(const struct form *form);
+
 /* The form's place in the table, or -1. */
 int form_of(uint16_t opcode);
 

@@ -1,5 +1,6 @@
 #include "judge.h"
 #include "libc.h"
+#include "profile.h"
 
 enum { GUARD = 64, GUARD_BYTE = 0xA5 };
 
@@ -65,7 +66,8 @@ static int changed_nothing(const struct call *call, const struct outcome *outcom
         && memcmp(outcome->screen, call->screen, call->bytes) == 0;
 }
 
-static const char *difference(const struct call *call, const struct outcome *box, const struct outcome *reference)
+static const char *difference(const struct call *call, const struct outcome *box, const struct outcome *reference,
+                              struct ovenlute_checked checked)
 {
     if (box->number != reference->number)
         return "the number";
@@ -85,14 +87,15 @@ static const char *difference(const struct call *call, const struct outcome *box
         return "refused, and yet something was changed";
     if (call->expected != NO_EXPECTATION && box->number != call->expected)
         return "both numbers are other than the one that was to be met";
-    return NULL;
+    return checked_difference(call, box, checked);
 }
 
 void judge(const struct call *call, struct verdict *verdict)
 {
     run_box(call, &verdict->box);
     run_reference(call, &verdict->reference);
-    verdict->difference = difference(call, &verdict->box, &verdict->reference);
+    verdict->checked = ovenlute_check(box_list, call->words);
+    verdict->difference = difference(call, &verdict->box, &verdict->reference, verdict->checked);
 }
 
 const char *judge_fresh(const struct request *request, int *number)

@@ -1,4 +1,4 @@
-/* Runs the box and the reference on the same call and compares the whole answers. */
+/* Runs the box and the reference on the same call, has both check its list, and compares the whole answers. */
 #ifndef JUDGE_H
 #define JUDGE_H
 
@@ -15,6 +15,7 @@ struct outcome {
 
 struct verdict {
     struct outcome box, reference;
+    struct ovenlute_checked checked;  /* what the box says of the list */
     const char *difference;  /* what is wrong, or NULL */
 };
 

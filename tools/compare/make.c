@@ -4,9 +4,20 @@
 
 /* ---- budgets and screens ---- */
 
-static void set_budget(struct call *call, int kind, uint32_t budget)
+static int budget_kind(uint32_t budget)
 {
-    call->kinds[BUDGETS] = kind;
+    if (budget < 2)
+        return budget == 0 ? BUDGET_NONE : BUDGET_ONE;
+    if (budget <= 200)
+        return budget <= 8 ? BUDGET_FEW : BUDGET_ENOUGH;
+    if (budget >= MOST_STEPS)
+        return budget == MOST_STEPS ? BUDGET_LIMIT : BUDGET_ABOVE;
+    return BUDGET_MANY;
+}
+
+void set_budget(struct call *call, uint32_t budget)
+{
+    call->kinds[BUDGETS] = budget_kind(budget);
     call->budget = budget;
 }
 
@@ -14,17 +25,17 @@ static void set_budget(struct call *call, int kind, uint32_t budget)
 static void make_budget(struct call *call, int is_straight)
 {
     if (call->kinds[LISTS] == LIST_ENDLESS || (is_straight && one_in(8)))
-        set_budget(call, BUDGET_LIMIT, MOST_STEPS);
+        set_budget(call, MOST_STEPS);
     else if (call->kinds[LISTS] == LIST_REPEATS && one_in(24))
-        set_budget(call, BUDGET_MANY, (uint32_t)between(201, 3000));
+        set_budget(call, (uint32_t)between(201, 3000));
     else if (one_in(24))
-        set_budget(call, BUDGET_NONE, 0);
+        set_budget(call, 0);
     else if (one_in(12))
-        set_budget(call, BUDGET_ONE, 1);
+        set_budget(call, 1);
     else if (one_in(3))
-        set_budget(call, BUDGET_FEW, (uint32_t)between(2, 8));
+        set_budget(call, (uint32_t)between(2, 8));
     else
-        set_budget(call, BUDGET_ENOUGH, (uint32_t)between(9, one_in(4) ? 200 : 40));
+        set_budget(call, (uint32_t)between(9, one_in(4) ? 200 : 40));
 }
 
 static size_t good_bytes(const struct call *call)
@@ -46,7 +57,7 @@ static void make_bad_budget(struct call *call)
 {
     static const uint32_t budgets[] = { MOST_STEPS + 1, MOST_STEPS + 2, 0x80000000, UINT32_MAX };
 
-    set_budget(call, BUDGET_ABOVE, budgets[below(4)]);
+    set_budget(call, budgets[below(4)]);
 }
 
 static void make_too_long(struct call *call)
@@ -135,7 +146,7 @@ static void make_door_refusal(struct call *call, int number)
 
 static void start_call(struct call *call)
 {
-    call->expected = NO_EXPECTATION;
+    call->expected = call->expected_check = NO_EXPECTATION;
     for (enum group group = 0; group < GROUPS; group++)
         call->kinds[group] = NOT_OF_A_KIND;
     call->kinds[CALLS] = CALL_WHOLE;
@@ -165,6 +176,8 @@ void make_call(struct call *call)
         make_two_refusals(call);
     else if (one_in(16))
         make_misnamed(call);
+    else if (one_in(8))
+        make_profile(call);
     fill_screen(call);
 }
 
@@ -173,6 +186,13 @@ void make_good_call(struct call *call)
     do
         make_allowed_call(call);
     while (call->env.registers.state != RUNNING || call->kinds[LISTS] == LIST_ENDLESS);
+    fill_screen(call);
+}
+
+void make_call_to_cut(struct call *call)
+{
+    make_allowed_call(call);
+    make_whole_profile(call);
     fill_screen(call);
 }
 
@@ -190,5 +210,5 @@ void make_opcode_word_call(struct call *call, uint16_t word)
     make_good_call(call);
     make_list_of_word(call, word);
     call->env.registers.counter = 0;
-    set_budget(call, BUDGET_FEW, 4);
+    set_budget(call, 4);
 }

@@ -28,7 +28,13 @@ void make_call_to_slice(struct call *call);
 /* A good call whose list begins with this word. */
 void make_opcode_word_call(struct call *call, uint16_t word);
 
+/* A call whose list is sound by T-09's checker, to be cut at every word. */
+void make_call_to_cut(struct call *call);
+
 void make_request(struct request *request);
+
+/* Sets a call's budget, and its kind. */
+void set_budget(struct call *call, uint32_t budget);
 
 /* Gives two calls the same screen and a pane each, mostly apart, at times overlapping. */
 void make_two_panes(struct call *a, struct call *b);
@@ -83,6 +89,11 @@ void make_list_of_word(struct call *call, uint16_t word);
 
 /* A list that meets two refusals at once, and the environment for it; sets budget and expectation. */
 void make_two_refusals(struct call *call);
+
+/* A list of T-09's profile, or one with faults in it, to be run from a fresh environment on a small screen; sets budget and, where
+   it is known, what the checker must tell. The second makes sound and short ones alone. */
+void make_profile(struct call *call);
+void make_whole_profile(struct call *call);
 
 /* A list whose last opcode names or implies a variable above 63, at one of its operands or at both; as above. */
 void make_misnamed(struct call *call);

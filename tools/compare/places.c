@@ -6,11 +6,6 @@
 
 enum { LAST_VARIABLE = 63 };
 
-static int is_long(char operand)
-{
-    return operand == 'l' || operand == 'a' || operand == 'o' || operand == 'p';
-}
-
 static int is_above(uint32_t number)
 {
     return number > LAST_VARIABLE;

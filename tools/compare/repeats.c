@@ -34,7 +34,7 @@ static int count_of(uint16_t count)
     return count == 1 ? COUNT_1 : count == MOST_PASSES ? COUNT_1000 : COUNT_INSIDE;
 }
 
-static int refused_count(uint16_t count)
+int refused_count(uint16_t count)
 {
     switch (count) {
     case 0: return REFUSED_COUNT_0;

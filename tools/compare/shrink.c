@@ -18,12 +18,13 @@ static int differs(const struct call *call)
 /* The difference isn't only that both numbers are other than expected. */
 static int strictly_differs(struct call *call)
 {
-    int expected = call->expected;
+    int expected = call->expected, expected_check = call->expected_check;
 
-    call->expected = NO_EXPECTATION;
+    call->expected = call->expected_check = NO_EXPECTATION;
     if (differs(call))
         return 1;
     call->expected = expected;
+    call->expected_check = expected_check;
     return 0;
 }
 
@@ -332,6 +333,14 @@ static void print_outcome(const char *name, const struct call *call, const struc
     print_fields(&outcome->env, &call->env);
 }
 
+static void print_checked(const struct call *call, struct ovenlute_checked box)
+{
+    struct afgis_checked reference = afgis_check(call->list, call->words);
+
+    printf("  checked: box %d, place %u, steps %u; reference %d, place %u, steps %u\n", box.number, (unsigned)box.place,
+           (unsigned)box.steps, reference.number, (unsigned)reference.place, (unsigned)reference.steps);
+}
+
 static void print_bytes(const struct call *call, const struct verdict *verdict)
 {
     uint32_t width = call->env.bounds.width;
@@ -356,6 +365,8 @@ void print_call(const struct call *call)
            (unsigned)call->env.bounds.height, (unsigned long long)call->bytes, (unsigned)call->budget);
     if (call->expected != NO_EXPECTATION)
         printf("; number that was to be met %d", call->expected);
+    if (call->expected_check != NO_EXPECTATION)
+        printf("; number that was to be told %d", call->expected_check);
     printf("\n");
     printf("  environment fresh, the pane the whole screen, but:");
     print_fields(&call->env, &plain);
@@ -370,5 +381,6 @@ void print_difference(const struct call *call)
     print_call(call);
     print_outcome("box", call, &verdict.box);
     print_outcome("reference", call, &verdict.reference);
+    print_checked(call, verdict.checked);
     print_bytes(call, &verdict);
 }

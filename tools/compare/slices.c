@@ -15,21 +15,6 @@ struct sum {
     uint32_t steps;
 };
 
-static int budget_kind(uint32_t budget)
-{
-    if (budget < 2)
-        return budget == 0 ? BUDGET_NONE : BUDGET_ONE;
-    if (budget <= 8)
-        return BUDGET_FEW;
-    return budget <= 200 ? BUDGET_ENOUGH : BUDGET_LIMIT;
-}
-
-void set_slice(struct call *call, uint32_t budget)
-{
-    call->budget = budget;
-    call->kinds[BUDGETS] = budget_kind(budget);
-}
-
 /* ---- calls one after the other ---- */
 
 static void start(struct sum *sum, const struct call *call, int kind)
@@ -45,7 +30,7 @@ static void add_call(struct sum *sum, uint32_t budget)
 {
     struct verdict verdict;
 
-    set_slice(&sum->call, budget);
+    set_budget(&sum->call, budget);
     check_call(&sum->call, &verdict);
     sum->number = verdict.box.number;
     sum->place = verdict.box.place;
