@@ -1,7 +1,7 @@
 /*
- * The fourteen cases of docs/RULES.md with their variants, requests T-01's to T-04's and T-06's, a line that is mostly outside,
- * places of refusals, the numbers 10 to 14, and what the header says of NULL and of its limits, through the C face of the box.
- * Each answer is checked whole: number, place, steps, every field of the environment, every byte.
+ * The fourteen cases of docs/RULES.md with their variants, requests T-01's to T-04's, T-06's and T-09's, a line that is mostly
+ * outside, places of refusals, the numbers 10 to 14, lists that are checked, and what the header says of NULL and of its limits,
+ * through the C face of the box. Each answer is checked whole: number, place, steps, every field of the environment, every byte.
  */
 
 #include "libc.h"
@@ -11,13 +11,13 @@ enum { WIDTH = 5, HEIGHT = 3, BYTES = WIDTH * HEIGHT, MOST_WORDS = 24, MOST_CHAN
 
 /* The fields that a case leaves other than fresh. */
 enum change {
-    NOTHING, VARIABLE, POSITION_X, POSITION_Y, ORIGIN_X, ORIGIN_Y, COUNTER, DEPTH, STACKED, PLACE, MODE, PATTERN, COLOUR, FIRST,
-    SECOND, STATE
+    NOTHING, VARIABLE, POSITION_X, POSITION_Y, ORIGIN_X, ORIGIN_Y, COUNTER, DEPTH, STACKED, NESTING, START, LEFT, PLACE, MODE,
+    PATTERN, COLOUR, FIRST, SECOND, STATE
 };
 
 struct changed {
     enum change what;
-    int which;      /* the variable's number, or the stacked index's */
+    int which;      /* the variable's number, the stacked index's or the repeat's; -1 for all that are stacked or open */
     int32_t value;
 };
 
@@ -115,6 +115,36 @@ static const struct test tests[] = {
       { { VARIABLE, 0, 65536 }, { COUNTER, 0, 4 }, { PLACE, 0, 4 }, { STATE, 0, 25 } }, BLANK },
     { "T-06, XYORGV of V63", 3, { 0x0000, 0x0101, 0x003F }, 100, WHOLE, 23, 1,
       { { COUNTER, 0, 1 }, { PLACE, 0, 2 }, { STATE, 0, 23 } }, BLANK },
+    { "T-09, three passes", 6, { 0x00B7, 0x0003, 0x005D, 0x0001, 0x004F, 0x0001 }, 100, WHOLE, 0, 8,
+      { { VARIABLE, 1, 3 }, { COUNTER, 0, 6 }, { STATE, 0, 1 } }, BLANK },
+    { "T-09, in the second of three passes", 6, { 0x00B7, 0x0003, 0x005D, 0x0001, 0x004F, 0x0001 }, 4, WHOLE, 1, 4,
+      { { VARIABLE, 1, 2 }, { COUNTER, 0, 4 }, { NESTING, 0, 1 }, { START, 0, 2 }, { LEFT, 0, 2 } }, BLANK },
+    { "T-09, one pass of nothing", 4, { 0x00B7, 0x0001, 0x004F, 0x0001 }, 100, WHOLE, 0, 3,
+      { { COUNTER, 0, 4 }, { STATE, 0, 1 } }, BLANK },
+    { "T-09, 1,000 passes", 6, { 0x00B7, 0x03E8, 0x005D, 0x0000, 0x004F, 0x0001 }, 2002, WHOLE, 0, 2002,
+      { { VARIABLE, 0, 1000 }, { COUNTER, 0, 6 }, { STATE, 0, 1 } }, BLANK },
+    { "T-09, a block in a block", 11,
+      { 0x00B7, 0x0002, 0x00B7, 0x0003, 0x005D, 0x0000, 0x004F, 0x005D, 0x0001, 0x004F, 0x0001 }, 100, WHOLE, 0, 20,
+      { { VARIABLE, 0, 6 }, { VARIABLE, 1, 2 }, { COUNTER, 0, 11 }, { STATE, 0, 1 } }, BLANK },
+    { "T-09, three dots of a repeat", 10,
+      { 0x00B7, 0x0003, 0x009F, 0x0000, 0x005D, 0x0000, 0x005D, 0x0001, 0x004F, 0x0001 }, 100, WHOLE, 0, 14,
+      { { VARIABLE, 0, 3 }, { VARIABLE, 1, 3 }, { COUNTER, 0, 10 }, { STATE, 0, 1 } }, "#...." ".#..." "..#.." },
+    { "T-09, a jump out leaves the block open", 7, { 0x00B7, 0x0002, 0x010C, 0x0000, 0x0001, 0x004F, 0x0001 }, 100, WHOLE, 0, 3,
+      { { COUNTER, 0, 7 }, { NESTING, 0, 1 }, { START, 0, 2 }, { LEFT, 0, 2 }, { STATE, 0, 1 } }, BLANK },
+    { "T-09, RTRN leaves the block open", 6, { 0x010E, 0x0001, 0x0001, 0x00B7, 0x0002, 0x00B9 }, 100, WHOLE, 0, 4,
+      { { COUNTER, 0, 3 }, { NESTING, 0, 1 }, { START, 0, 5 }, { LEFT, 0, 2 }, { STATE, 0, 1 } }, BLANK },
+    { "T-09, count 0", 3, { 0x0000, 0x00B7, 0x0000 }, 100, WHOLE, 24, 1,
+      { { COUNTER, 0, 1 }, { PLACE, 0, 1 }, { STATE, 0, 24 } }, BLANK },
+    { "T-09, count 1,001", 3, { 0x0000, 0x00B7, 0x03E9 }, 100, WHOLE, 24, 1,
+      { { COUNTER, 0, 1 }, { PLACE, 0, 1 }, { STATE, 0, 24 } }, BLANK },
+    { "T-09, count -1", 3, { 0x0000, 0x00B7, 0xFFFF }, 100, WHOLE, 24, 1,
+      { { COUNTER, 0, 1 }, { PLACE, 0, 1 }, { STATE, 0, 24 } }, BLANK },
+    { "T-09, no count", 2, { 0x0000, 0x00B7 }, 100, WHOLE, 22, 1,
+      { { COUNTER, 0, 1 }, { PLACE, 0, 1 }, { STATE, 0, 22 } }, BLANK },
+    { "T-09, a ninth repeat", 6, { 0x0000, 0x00B7, 0x0007, 0x010C, 0x0000, 0xFFFB }, 100, WHOLE, 28, 17,
+      { { COUNTER, 0, 1 }, { NESTING, 0, 8 }, { START, -1, 3 }, { LEFT, -1, 7 }, { PLACE, 0, 1 }, { STATE, 0, 28 } }, BLANK },
+    { "T-09, ERPT with none open", 2, { 0x0000, 0x004F }, 100, WHOLE, 29, 1,
+      { { COUNTER, 0, 1 }, { PLACE, 0, 1 }, { STATE, 0, 29 } }, BLANK },
     { "all coordinates through two columns", 7, { 0x0074, 0x0000, 0x7FFF, 0x8003, 0x8003, 0x7FFF, 0x0001 }, 100,
       { 1, 0, 2, 2 }, 0, 2, { { COUNTER, 0, 7 }, { STATE, 0, 1 } }, "..#.." ".#..." "....." },
     { "9 as LINETO", 5, { 0x007C, 0x0000, 0x0004, 0x0002, 0x0001 }, 100, WHOLE, 0, 2,
@@ -159,7 +189,7 @@ static void check(const char *name, const char *wrong)
 
 /* ---- environments ---- */
 
-/* Document 01's fresh environment, with T-03's pattern; T-06's origin is zeros, as most of it is. */
+/* Document 01's fresh environment, with T-03's pattern; T-06's origin and T-09's nesting are zeros, as most of it is. */
 static void fresh_env(struct ovenlute_env *env, struct ovenlute_pane pane)
 {
     memset(env, 0, sizeof *env);
@@ -172,12 +202,18 @@ static void fresh_env(struct ovenlute_env *env, struct ovenlute_pane pane)
     env->registers.pattern = UINT32_MAX;
 }
 
-/* A stacked index -1 stands for all that are stacked. */
 static void set_stacked(struct ovenlute_env *env, int which, uint32_t value)
 {
     for (uint32_t i = 0; i < env->registers.depth; i++)
         if (which < 0 || i == (uint32_t)which)
             env->stack[i] = value;
+}
+
+static void set_repeat(struct ovenlute_env *env, enum change what, int which, uint32_t value)
+{
+    for (uint32_t i = 0; i < env->nesting; i++)
+        if (which < 0 || i == (uint32_t)which)
+            *(what == START ? &env->repeats[i].start : &env->repeats[i].left) = value;
 }
 
 static void change_register(struct ovenlute_registers *registers, enum change what, int32_t value)
@@ -233,6 +269,10 @@ static void apply(struct ovenlute_env *env, const struct changed *changed)
         env->variables[changed->which] = changed->value;
     else if (changed->what == STACKED)
         set_stacked(env, changed->which, (uint32_t)changed->value);
+    else if (changed->what == NESTING)
+        env->nesting = (uint32_t)changed->value;
+    else if (changed->what == START || changed->what == LEFT)
+        set_repeat(env, changed->what, changed->which, (uint32_t)changed->value);
     else
         change_register(&env->registers, changed->what, changed->value);
 }
@@ -255,10 +295,21 @@ static int same_registers(const struct ovenlute_registers *a, const struct ovenl
         && a->colour == b->colour && a->state == b->state;
 }
 
+/* Past the nesting none counts. */
+static int same_repeats(const struct ovenlute_env *a, const struct ovenlute_env *b)
+{
+    if (a->nesting != b->nesting)
+        return 0;
+    for (uint32_t i = 0; i < a->nesting && i < OVENLUTE_REPEATS; i++)
+        if (a->repeats[i].start != b->repeats[i].start || a->repeats[i].left != b->repeats[i].left)
+            return 0;
+    return 1;
+}
+
 /* Past the depth nothing of the stack counts. */
 static int same_env(const struct ovenlute_env *a, const struct ovenlute_env *b)
 {
-    if (!same_bounds(&a->bounds, &b->bounds) || !same_registers(&a->registers, &b->registers))
+    if (!same_bounds(&a->bounds, &b->bounds) || !same_registers(&a->registers, &b->registers) || !same_repeats(a, b))
         return 0;
     for (int i = 0; i < 64; i++)
         if (a->variables[i] != b->variables[i])
@@ -432,6 +483,144 @@ static void check_origins(void)
     check_door("12, an origin's y below the word", &env, 1, BYTES, 1, OVENLUTE_BAD_FIELD);
 }
 
+/* Up to eight open repeats, each a word index and 1 to 1,000 passes left; past the nesting nothing counts. */
+static void check_repeats(void)
+{
+    struct ovenlute_env good, bad;
+
+    fresh_env(&good, whole_pane);
+    for (int i = 0; i < OVENLUTE_REPEATS; i++)
+        good.repeats[i] = (struct ovenlute_repeat){ OVENLUTE_MOST_WORDS, i % 2 == 0 ? 1 : OVENLUTE_MOST_PASSES };
+    good.nesting = OVENLUTE_REPEATS;
+    check_door("eight repeats at the ends of their ranges", &good, 1, BYTES, 0, OVENLUTE_BUDGET);
+    bad = good;
+    bad.nesting = OVENLUTE_REPEATS + 1;
+    check_door("12, nine repeats", &bad, 1, BYTES, 1, OVENLUTE_BAD_FIELD);
+    bad = good;
+    bad.repeats[7].left = 0;
+    check_door("12, a repeat of no passes", &bad, 1, BYTES, 1, OVENLUTE_BAD_FIELD);
+    bad.nesting = 7;
+    check_door("a repeat of no passes, past the nesting", &bad, 1, BYTES, 0, OVENLUTE_BUDGET);
+    bad = good;
+    bad.repeats[0].left = OVENLUTE_MOST_PASSES + 1;
+    check_door("12, a repeat of 1,001 passes", &bad, 1, BYTES, 1, OVENLUTE_BAD_FIELD);
+    bad = good;
+    bad.repeats[3].start = OVENLUTE_MOST_WORDS + 1;
+    check_door("12, a repeat past the longest list", &bad, 1, BYTES, 1, OVENLUTE_BAD_FIELD);
+}
+
+/* A block in a block, an opcode a call: each call goes on in the pass where the one before was. */
+static void check_sliced_repeats(void)
+{
+    static const uint16_t list[] = { 0x00B7, 2, 0x00B7, 3, 0x005D, 0, 0x004F, 0x004F, 0x0001 };
+    struct ovenlute_env env;
+    uint8_t screen[BYTES] = { 0 };
+    struct ovenlute_done done;
+    uint32_t calls = 0;
+
+    fresh_env(&env, whole_pane);
+    do
+        done = ovenlute_run(list, sizeof list / sizeof list[0], screen, BYTES, &env, 1);
+    while (++calls < 100 && done.number == OVENLUTE_BUDGET);
+    check("T-09, an opcode a call", calls != 18 ? "other steps" : done.number != OVENLUTE_ENDED ? "another number" : NULL);
+    check("T-09, an opcode a call, and its passes", env.variables[0] == 6 && env.nesting == 0 ? NULL : "another environment");
+}
+
+/* ---- lists that are checked ---- */
+
+struct checked_list {
+    const char *name;
+    size_t words;
+    uint16_t list[MOST_WORDS];
+    struct ovenlute_checked wanted;
+};
+
+#define EIGHT_BLOCKS 0x00B7, 1, 0x00B7, 1, 0x00B7, 1, 0x00B7, 1, 0x00B7, 1, 0x00B7, 1, 0x00B7, 1, 0x00B7, 1
+
+/* Twice inside one another, 999,001 steps, then 997 or 998 passes of nothing, and the EODL. */
+#define MANY_STEPS(count) 0x00B7, 1000, 0x00B7, 997, 0x004F, 0x004F, 0x00B7, count, 0x004F
+
+static const struct checked_list checked_lists[] = {
+    { "EODL", 1, { 0x0001 }, { 0, 0, 1 } },
+    { "no EODL", 2, { 0x005D, 0x0000 }, { 20, 2, 0 } },
+    { "no EODL, in a block", 3, { 0x00B7, 2, 0x0000 }, { 20, 3, 0 } },
+    { "an opcode that needs a variable above 63", 3, { 0x005D, 0x0040, 0x0001 }, { 0, 0, 2 } },
+    { "a block in a block", 11, { 0x00B7, 2, 0x00B7, 3, 0x005D, 0, 0x004F, 0x005D, 1, 0x004F, 0x0001 }, { 0, 0, 20 } },
+    { "words behind the EODL", 4, { 0x0000, 0x0001, 0x00B9, 0x00B7 }, { 0, 0, 2 } },
+    { "no opcode", 2, { 0x0000, 0x2023 }, { 21, 1, 0 } },
+    { "a jump", 5, { 0x0000, 0x010C, 0x0000, 0x0000, 0x0001 }, { 21, 1, 0 } },
+    { "a call, cut", 2, { 0x0000, 0x000E }, { 21, 1, 0 } },
+    { "RTRN in a block", 5, { 0x00B7, 2, 0x00B9, 0x004F, 0x0001 }, { 21, 2, 0 } },
+    { "no count", 2, { 0x0000, 0x00B7 }, { 22, 1, 0 } },
+    { "an operand is missing", 3, { 0x0000, 0x0066, 0x0000 }, { 22, 1, 0 } },
+    { "count 0", 5, { 0x0000, 0x00B7, 0, 0x004F, 0x0001 }, { 24, 1, 0 } },
+    { "count 1,001", 5, { 0x0000, 0x00B7, 1001, 0x004F, 0x0001 }, { 24, 1, 0 } },
+    { "count -1", 5, { 0x0000, 0x00B7, 0xFFFF, 0x004F, 0x0001 }, { 24, 1, 0 } },
+    { "mode 3 is a run's to refuse", 3, { 0x0016, 0x0003, 0x0001 }, { 0, 0, 2 } },
+    { "eight blocks in one another, and no EODL", 16, { EIGHT_BLOCKS }, { 20, 16, 0 } },
+    { "a ninth block", 18, { EIGHT_BLOCKS, 0x00B7, 1 }, { 28, 16, 0 } },
+    { "a ninth block of a count that is not allowed", 18, { EIGHT_BLOCKS, 0x00B7, 0 }, { 24, 16, 0 } },
+    { "a ninth block without its count", 17, { EIGHT_BLOCKS, 0x00B7 }, { 22, 16, 0 } },
+    { "ERPT outside all blocks", 5, { 0x00B7, 1, 0x004F, 0x004F, 0x0001 }, { 29, 3, 0 } },
+    { "EODL in a block", 4, { 0x00B7, 1, 0x0001, 0x004F }, { 30, 2, 0 } },
+    { "a million steps", 10, { MANY_STEPS(997), 0x0001 }, { 0, 0, 1000000 } },
+    { "a step too many", 10, { MANY_STEPS(998), 0x0001 }, { 31, 0, 0 } },
+    { "a step too many, and a fault behind it", 10, { MANY_STEPS(998), 0x004F }, { 29, 9, 0 } },
+    { "a fault before another", 5, { 0x004F, 0x00B7, 0, 0x00B9, 0x0001 }, { 29, 0, 0 } },
+};
+
+static void check_checked(const char *name, const uint16_t *list, size_t words, struct ovenlute_checked wanted)
+{
+    struct ovenlute_checked checked = ovenlute_check(list, words);
+
+    if (checked.number != wanted.number)
+        check(name, "another number");
+    else if (checked.place != wanted.place)
+        check(name, "another place");
+    else
+        check(name, checked.steps == wanted.steps ? NULL : "other steps");
+}
+
+/* NOOPs as many as a list may have, one more, and an EODL as the last. */
+static void check_long_lists(void)
+{
+    static uint16_t list[OVENLUTE_MOST_WORDS + 1];
+
+    check_checked("checked, no words at NULL", NULL, 0, (struct ovenlute_checked){ OVENLUTE_PAST_END, 0, 0 });
+    check_checked("checked, the longest list", list, OVENLUTE_MOST_WORDS,
+                  (struct ovenlute_checked){ OVENLUTE_PAST_END, OVENLUTE_MOST_WORDS, 0 });
+    check_checked("checked, a word too many", list, OVENLUTE_MOST_WORDS + 1, (struct ovenlute_checked){ OVENLUTE_LONG_LIST, 0, 0 });
+    list[OVENLUTE_MOST_WORDS - 1] = 0x0001;
+    check_checked("checked, EODL the last word of the longest list", list, OVENLUTE_MOST_WORDS,
+                  (struct ovenlute_checked){ OVENLUTE_ENDED, 0, OVENLUTE_MOST_WORDS });
+}
+
+/* What is accepted ends in exactly so many steps, and with one step less it does not. */
+static void check_run_of(const struct checked_list *checked)
+{
+    struct ovenlute_env env;
+    uint8_t screen[BYTES] = { 0 };
+    struct ovenlute_done done;
+
+    fresh_env(&env, whole_pane);
+    done = ovenlute_run(checked->list, checked->words, screen, BYTES, &env, checked->wanted.steps - 1);
+    check(checked->name, done.number >= OVENLUTE_NO_VARIABLE || done.number == OVENLUTE_BUDGET ? NULL : "ends too soon");
+    done = ovenlute_run(checked->list, checked->words, screen, BYTES, &env, 1);
+    check(checked->name, done.number >= OVENLUTE_NO_VARIABLE || done.number == OVENLUTE_ENDED ? NULL : "does not end");
+}
+
+static void check_checked_lists(void)
+{
+    for (size_t i = 0; i < sizeof checked_lists / sizeof checked_lists[0]; i++) {
+        const struct checked_list *checked = &checked_lists[i];
+        check_checked(checked->name, checked->list, checked->words, checked->wanted);
+        if (checked->wanted.number == OVENLUTE_ENDED)
+            check_run_of(checked);
+    }
+}
+
+/* ---- lit dots, NULL, limits ---- */
+
 static void check_lit(const char *name, uint32_t length, uint32_t pattern, uint8_t number, uint32_t count)
 {
     struct ovenlute_lit_dots lit = ovenlute_lit(length, pattern);
@@ -488,6 +677,10 @@ int main(void)
     check_door_calls();
     check_patterns();
     check_origins();
+    check_repeats();
+    check_sliced_repeats();
+    check_long_lists();
+    check_checked_lists();
     check_lit_calls();
     check_null();
     check_limits();

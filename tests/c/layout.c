@@ -37,13 +37,19 @@ _Static_assert(offsetof(struct ovenlute_registers, place) == 56, "registers.plac
 _Static_assert(offsetof(struct ovenlute_registers, colour) == 60, "registers.colour");
 _Static_assert(offsetof(struct ovenlute_registers, state) == 61, "registers.state");
 
-_Static_assert(sizeof(struct ovenlute_env) == 408, "env");
+_Static_assert(sizeof(struct ovenlute_repeat) == 8, "repeat");
+_Static_assert(offsetof(struct ovenlute_repeat, start) == 0, "repeat.start");
+_Static_assert(offsetof(struct ovenlute_repeat, left) == 4, "repeat.left");
+
+_Static_assert(sizeof(struct ovenlute_env) == 476, "env");
 _Static_assert(offsetof(struct ovenlute_env, bounds) == 0, "env.bounds");
 _Static_assert(offsetof(struct ovenlute_env, registers) == 24, "env.registers");
 _Static_assert(offsetof(struct ovenlute_env, variables) == 88, "env.variables");
 _Static_assert(offsetof(struct ovenlute_env, stack) == 344, "env.stack");
+_Static_assert(offsetof(struct ovenlute_env, nesting) == 408, "env.nesting");
+_Static_assert(offsetof(struct ovenlute_env, repeats) == 412, "env.repeats");
 
-_Static_assert(sizeof(struct ovenlute_made) == 412, "made");
+_Static_assert(sizeof(struct ovenlute_made) == 480, "made");
 _Static_assert(offsetof(struct ovenlute_made, number) == 0, "made.number");
 _Static_assert(offsetof(struct ovenlute_made, env) == 4, "made.env");
 
@@ -51,6 +57,11 @@ _Static_assert(sizeof(struct ovenlute_done) == 12, "done");
 _Static_assert(offsetof(struct ovenlute_done, number) == 0, "done.number");
 _Static_assert(offsetof(struct ovenlute_done, place) == 4, "done.place");
 _Static_assert(offsetof(struct ovenlute_done, steps) == 8, "done.steps");
+
+_Static_assert(sizeof(struct ovenlute_checked) == 12, "checked");
+_Static_assert(offsetof(struct ovenlute_checked, number) == 0, "checked.number");
+_Static_assert(offsetof(struct ovenlute_checked, place) == 4, "checked.place");
+_Static_assert(offsetof(struct ovenlute_checked, steps) == 8, "checked.steps");
 
 _Static_assert(sizeof(struct ovenlute_lit_dots) == 8, "lit_dots");
 _Static_assert(offsetof(struct ovenlute_lit_dots, number) == 0, "lit_dots.number");
@@ -60,4 +71,4 @@ _Static_assert(sizeof(struct ovenlute_words) == 96, "words");
 _Static_assert(offsetof(struct ovenlute_words, length) == 0, "words.length");
 _Static_assert(offsetof(struct ovenlute_words, text) == 1, "words.text");
 
-_Static_assert(OVENLUTE_VERSION == 4, "the version that these sizes and offsets are of");
+_Static_assert(OVENLUTE_VERSION == 5, "the version that these sizes and offsets are of");
