@@ -11,15 +11,15 @@ enum { MOST_WORDS = 65536, MOST_STEPS = 1000000, MOST_SIDE = 2048 };
 enum { LIST_ROOM = MOST_WORDS + 64, SCREEN_ROOM = MOST_SIDE * MOST_SIDE + 4 * MOST_SIDE };
 
 /* Whatever is counted belongs to one of these groups. A call has at most one member of each, but for those from CLEARINGS on:
-   those are counted for each CLRWIN, each line, each circle, each origin and each repeat on its way. */
+   those are counted for each CLRWIN, each line, each circle, each origin and each repeat on its way, and for its list. */
 enum group {
     CALLS, LISTS, ENVIRONMENTS, BROKEN_FIELDS, SIZES, PANES, WINDOWS, MODES, BUDGETS, SCREENS,
-    DOOR_PAIRS, OPCODE_PAIRS, SLICED, SLICES, FRESH_CALLS, NUMBERS, PLACES, MISNAMED, CLEARINGS, LINES, HALVES, CUTS,
+    DOOR_PAIRS, OPCODE_PAIRS, PROFILES, SLICED, SLICES, FRESH_CALLS, NUMBERS, PLACES, MISNAMED, CLEARINGS, LINES, HALVES, CUTS,
     DASH_OPCODES, DASH_PATTERNS, DASH_LENGTHS, DASHES_X_AHEAD, DASHES_X_BACK, DASHES_Y_AHEAD, DASHES_Y_BACK,
     REFUSED_LINES, LIT_LENGTHS, LIT_PATTERNS, LIT_RUNS, LIT_LINES, FILLED_CIRCLES, OUTLINES, REFUSED_CIRCLES,
     ORIGINS_SET, REFUSED_ORIGINS, ORIGINS, MOVED_SHAPES, SUMS, MOVED_WINDOWS, MODES_CHANGED,
     OPEN_REPEATS, REPEAT_FIELDS, REPEATS_OPENED, COUNTS, REFUSED_REPEATS, WENT_BACK, CLOSED, PASSES, WITH_REPEATS, SLICED_REPEATS,
-    PROFILES, CHECKED, CHECKED_STEPS, CHECKED_DEPTHS, CHECKED_ENDS, CHECKED_21, CHECKED_CUTS, CHECKED_COUNTS, CHECKED_RUNS,
+    CHECKED, CHECKED_STEPS, CHECKED_DEPTHS, CHECKED_ENDS, CHECKED_21, CHECKED_CUTS, CHECKED_COUNTS, CHECKED_RUNS,
     GROUPS
 };
 
@@ -184,8 +184,8 @@ enum { EODL_LAST, EODL_LAST_OF_LONGEST, EODL_AND_WORDS };
 /* What a 21 was met at: no opcode, or one that is foreign, whole or cut; and one of these inside a block. */
 enum { FOREIGN_NONE, FOREIGN_JUMP, FOREIGN_CALL, FOREIGN_RETURN, FOREIGN_JUMP_CUT, FOREIGN_CALL_CUT, FOREIGN_INSIDE };
 
-/* Where a list ended too soon: 20 with no word, outside all blocks, right behind an RPT or elsewhere in a block; 22 inside an RPT, or
-   the ninth, or inside another opcode, in a block or not. */
+/* Where a list ended too soon: 20 with no word, outside all blocks, right behind an RPT or elsewhere in a block; 22 inside an RPT,
+   or the ninth, or inside another opcode, in a block or not; and either at the end of the longest list. */
 enum {
     CUT_NO_WORDS, CUT_OUTSIDE, CUT_BEHIND_RPT, CUT_INSIDE, CUT_RPT, CUT_NINTH_RPT, CUT_OPCODE, CUT_OPCODE_INSIDE, CUT_AT_65535,
     CUT_AT_65536
@@ -194,11 +194,12 @@ enum {
 /* The counts that 24 was told of are those of a run, and behind them one of a ninth RPT. */
 enum { CHECKED_COUNT_OF_NINTH = REFUSED_COUNT_OTHER - REFUSED_COUNT_0 + 1 };
 
-/* How a run from a fresh environment went: in exactly the steps told, a million or fewer, short of them, stopped sooner by 23 to 26; refused with the
-   number told, at the same place, sooner by 23 to 26, or not within the budget; or on and on where the steps are too many. */
+/* How a run from a fresh environment went: in exactly the steps told, fewer than a million or all of them, short of them, stopped
+   sooner by 23 to 26; refused with the number told, at the same place, sooner by 23 to 26, or not within the budget; or on and
+   on where the steps are too many. */
 enum {
-    RUN_ENDS, RUN_ENDS_IN_MILLION, RUN_SHORT, RUN_STOPS_23, RUN_REFUSED_20 = RUN_STOPS_23 + 4, RUN_REFUSED_22, RUN_REFUSED_24, RUN_REFUSED_28,
-    RUN_REFUSED_29, RUN_REFUSED_SOONER, RUN_NOT_YET, RUN_ON_AND_ON
+    RUN_ENDS, RUN_ENDS_IN_MILLION, RUN_SHORT, RUN_STOPS_23, RUN_REFUSED_20 = RUN_STOPS_23 + 4, RUN_REFUSED_22, RUN_REFUSED_24,
+    RUN_REFUSED_28, RUN_REFUSED_29, RUN_REFUSED_SOONER, RUN_NOT_YET, RUN_ON_AND_ON
 };
 
 enum { NOT_OF_A_KIND = -1, NO_EXPECTATION = -1 };

@@ -42,6 +42,9 @@ static const struct {
                                      "13+14" } },
     [OPCODE_PAIRS] = { "opcode pairs", { "22+23", "22+24", "22+25", "22+26", "22+28", "23+24", "23+25", "23+26",
                                          "23+28", "24+25", "24+27", "24+28", "27+28" } },
+    [PROFILES] = { "lists of the profile", { "sound", "eight deep", "cut at a word", "a fault", "two faults", "1000000 steps",
+                                             "1000001 steps", "2^32 steps", "2^64 steps", "many steps and a fault",
+                                             "words behind EODL", "65536 words", "too long" } },
     [SLICED] = { "run in slices", { "ends", "runs on", "is stopped", "had ended", "was stopped", "10", "11", "12",
                                     "13" } },
     [SLICES] = { "slices", { "of 1", "of 7", "of 0 to 12" } },
@@ -103,9 +106,6 @@ static const struct {
     [WITH_REPEATS] = { "with a repeat open", { "jump to before its block", "other jump", "call", "RTRN", "EODL",
                                                "its RPT again" } },
     [SLICED_REPEATS] = { "slices that end", { "with a repeat open", "where its block begins", "before an ERPT" } },
-    [PROFILES] = { "lists of the profile", { "sound", "eight deep", "cut at a word", "a fault", "two faults", "1000000 steps",
-                                             "1000001 steps", "2^32 steps", "2^64 steps", "many steps and a fault",
-                                             "words behind EODL", "65536 words", "too long" } },
     [CHECKED] = { "lists checked", { "0", "13", "20", "21", "22", "24", "28", "29", "30", "31" } },
     [CHECKED_STEPS] = { "0 by steps", { "1", "2 to 1000", "1001 to 999999", "1000000" } },
     [CHECKED_DEPTHS] = { "0 by depth", { "0", NESTINGS } },
@@ -115,9 +115,10 @@ static const struct {
                                                     "20 inside a block", "22 RPT", "22 ninth RPT", "22 another",
                                                     "22 another inside a block", "22 at 65535", "20 at 65536" } },
     [CHECKED_COUNTS] = { "24 told of count", { "0", "1001", "7FFF", "8000", "FFFF", "other", "a ninth RPT's" } },
-    [CHECKED_RUNS] = { "runs of lists checked", { "end", "end in 1000000", "budget short", "stopped by 23", "stopped by 24", "stopped by 25",
-                                                  "stopped by 26", "20 too", "22 too", "24 too", "28 too", "29 too",
-                                                  "23 to 26 sooner", "budget short of a fault", "31 and on and on" } },
+    [CHECKED_RUNS] = { "runs of lists checked", { "end", "end in 1000000", "budget short", "stopped by 23", "stopped by 24",
+                                                  "stopped by 25", "stopped by 26", "20 too", "22 too", "24 too", "28 too",
+                                                  "29 too", "23 to 26 sooner", "budget short of a fault",
+                                                  "31 and on and on" } },
 };
 
 static uint64_t kinds_met[GROUPS][MOST_MEMBERS];

@@ -18,8 +18,11 @@ static int is_out_of_range(const struct afgis_repeat *repeat)
     return repeat->start > MOST_WORDS || repeat->left == 0 || repeat->left > MOST_PASSES;
 }
 
+/* More than eight are no kind; that they were let in will be a difference. */
 void count_open_repeats(const struct afgis_env *env)
 {
+    if (env->nesting > REPEATS)
+        return;
     count_kind(OPEN_REPEATS, (int)env->nesting);
     for (uint32_t i = 0; i < env->nesting; i++)
         count_fields(&env->repeats[i]);
@@ -137,7 +140,7 @@ void count_sliced_repeat(const struct call *call)
     const struct ovenlute_env *env = &call->env;
     uint32_t counter = env->registers.counter;
 
-    if (env->nesting == 0)
+    if (env->nesting == 0 || env->nesting > REPEATS)
         return;
     count_kind(SLICED_REPEATS, SLICE_INSIDE);
     if (counter == env->repeats[env->nesting - 1].start)
