@@ -72,6 +72,15 @@ static void make_loop(void)
         put(loop[i]);
 }
 
+/* 499,000 times INCV in a block of 499 passes, which another one repeats: a million steps and one. */
+static void make_repeats(void)
+{
+    static const uint16_t blocks[] = { 0x00B7, 1000, 0x00B7, 499, 0x005D, 0x0000, 0x004F, 0x004F, 0x0001 };
+
+    for (size_t i = 0; i < sizeof blocks / sizeof blocks[0]; i++)
+        put(blocks[i]);
+}
+
 static void put_pattern(uint32_t pattern)
 {
     put(0x0078);
@@ -285,6 +294,7 @@ static void make_moved_clear(void)
 
 static const struct work works[] = {
     { "arithmetic loop", make_loop, WHOLE(WIDTH, HEIGHT), 4, 0, 0 },
+    { "repeats: a loop of INCV by RPT and ERPT", make_repeats, WHOLE(WIDTH, HEIGHT), 4, 0, 0 },
     { "lines on the screen", make_lines, WHOLE(WIDTH, HEIGHT), 4, 0, 0 },
     { "short lines, up to 8 dots", make_short_lines, WHOLE(WIDTH, HEIGHT), 10, 0, 0 },
     { "lines mostly outside the pane", make_far_lines, PANE(WIDTH, HEIGHT), 1, 0, 0 },

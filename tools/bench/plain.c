@@ -265,6 +265,35 @@ static int jump(const struct machine *m, const uint16_t *word, uint32_t *counter
     return 0;
 }
 
+static int open_repeat(struct afgis_env *env, const uint16_t *word, uint32_t *counter)
+{
+    if (word[1] < 1 || word[1] > 1000)
+        return 24;
+    if (env->nesting == 8)
+        return 28;
+    *counter += 2;
+    env->repeats[env->nesting] = (struct afgis_repeat){ *counter, word[1] };
+    env->nesting++;
+    return 0;
+}
+
+static int end_pass(struct afgis_env *env, uint32_t *counter)
+{
+    struct afgis_repeat *repeat;
+
+    if (env->nesting == 0)
+        return 29;
+    repeat = &env->repeats[env->nesting - 1];
+    repeat->left--;
+    if (repeat->left > 0) {
+        *counter = repeat->start;
+        return 0;
+    }
+    env->nesting--;
+    *counter += 1;
+    return 0;
+}
+
 /* One opcode: 0, or the number with which it is refused. */
 static inline int carry_out(struct machine *m, uint32_t *counter)
 {
@@ -295,6 +324,8 @@ static inline int carry_out(struct machine *m, uint32_t *counter)
         env->second = long_at(word + 1);
         *counter += 4;
         return 0;
+    case 0x004F:
+        return end_pass(env, counter);
     case 0x005D:
         if (left < 2)
             return 22;
@@ -313,6 +344,8 @@ static inline int carry_out(struct machine *m, uint32_t *counter)
         return 0;
     case 0x009E:
         return left < 3 ? 22 : paint_dot(m, word, counter);
+    case 0x00B7:
+        return left < 2 ? 22 : open_repeat(env, word, counter);
     case 0x0100:
         return left < 3 ? 22 : set_origin(env, word, counter);
     case 0x010C:

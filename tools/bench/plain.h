@@ -4,8 +4,8 @@
 
 #include "afgis.h"
 
-/* As afgis_run, for INCV, CPIV, JUMPR, LINE, LINEPATN, PIXEL, CIR, CIRS, XYORG, CLIPMODE, CLIPWIN, CLRWIN and EODL; the
-   environment is a good one. */
+/* As afgis_run, for INCV, CPIV, JUMPR, RPT, ERPT, LINE, LINEPATN, PIXEL, CIR, CIRS, XYORG, CLIPMODE, CLIPWIN, CLRWIN and EODL;
+   the environment is a good one. */
 struct afgis_answer plain_run(const uint16_t *list, size_t words, uint8_t *screen, size_t bytes,
                               struct afgis_env *env, uint32_t budget);
 
