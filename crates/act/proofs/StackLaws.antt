@@ -1,7 +1,7 @@
 -- The array of what is stacked and open: what goes in comes out, and where a return or a repeat is stored, nothing else is changed.
 use Prim.Native.Nat.{ℕ, zero, suc, _+_, _*_, _<_}
 use mathlib.Core.Path.{_≡_, refl, sym, ap, _∙_}
-use mathlib.Core.List.{List, [], _∷_}
+use mathlib.Core.List.{List, [], _∷_, _++_, map}
 use native.Mathlib.Omega.{arith}
 use lib.ListN.{length, take, drop, set, getD, length-set, length-take, length-drop, length-map, List·getD-map}
 use lib.Seq.{take-set-le, take-set-lt, drop-set-lt, drop-set-add, getD-take, getD-drop, getD-set-same, getD-set-other}
@@ -9,17 +9,24 @@ use Rattle.numbers.specs.declared.place.WordIndex.{WordIndex}
 use Rattle.rules.specs.declared.environment.Repeat.{Repeat}
 use Rattle.rules.specs.Environment.{start, repeat, over}
 use Rattle.brush.proofs.Spelt.{spelt, one-by-one}
-use Rattle.act.specs.Lent.{numbers, indexed, paired, returns, nesting, repeats, StackFull, Nested}
+use Rattle.act.specs.Lent.{indexed, paired, returns, nesting, repeats, StackFull, Numbered, Nested}
 
 -- ---- as a run begins and as it ends: what is read one by one is all there is
 abbrev reads : {A : Type 0} → A → ℕ → ℕ → List A → List A
 reads d k zero xs = []
 reads d k (suc n) xs = getD xs k d ∷ reads d (suc k) n xs
 
-pub all-numbers : (st : List WordIndex) (n : ℕ) (rs : List Repeat) → length st ≡ 16 → length rs ≡ 8 → numbers (reads start 0 16 st) n (reads over 0 8 rs) ≡ numbers st n rs
-all-numbers st n rs s r =
-    one-by-one start (λ st. numbers (reads start 0 16 st) n (reads over 0 8 rs) ≡ numbers st n rs) st s
-    (one-by-one over (λ rs. numbers (reads start 0 16 (spelt start 16 st)) n (reads over 0 8 rs) ≡ numbers (spelt start 16 st) n rs) rs r refl)
+abbrev spread : List Repeat → List ℕ
+spread [] = []
+spread (r ∷ rs) = r .start .0 ∷ r .left ∷ spread rs
+
+abbrev pub numbers : List WordIndex → ℕ → List Repeat → List ℕ
+numbers is n rs = map (λ (i : WordIndex). i .0) (reads start 0 16 is) ++ (n ∷ spread (reads over 0 8 rs))
+
+pub all-numbers : (is : List WordIndex) (n : ℕ) (rs : List Repeat) → length is ≡ 16 → length rs ≡ 8 → Numbered is n rs (numbers is n rs)
+all-numbers is n rs s r =
+    one-by-one start (λ is. Numbered is n rs (numbers is n rs)) is s
+    (record { full = refl; stacked = refl; nested = refl; repeated = one-by-one over (λ rs. repeats (numbers (spelt start 16 is) n rs) ≡ rs) rs r refl })
 
 pub all-returns : (st : List ℕ) → StackFull st → indexed (reads 0 0 16 st) ≡ returns st
 all-returns st h = one-by-one 0 (λ st. indexed (reads 0 0 16 st) ≡ returns st) st h refl

@@ -1,7 +1,7 @@
 -- The registers, the stacked returns and the open repeats as the program lends them: numbers in cells, coordinates in points, and what is stacked or open in an array of numbers.
 use Prim.Native.Nat.{ℕ}
 use mathlib.Core.Path.{_≡_}
-use mathlib.Core.List.{List, [], _∷_, _++_, map}
+use mathlib.Core.List.{List, [], _∷_, map}
 use lib.ListN.{length, getD, take, drop}
 use lib.IntN.{ℤ, pos}
 use Rattle.numbers.specs.declared.place.WordIndex.{WordIndex}
@@ -59,15 +59,7 @@ pub record Spread (r : Registers) (cs : List ℕ) : Type 0 where
   pub full : CellsFull cs
   pub reads : registers cs (points r) ≡ r
 
--- the numbers of 16 returns, how many repeats are open, and the numbers of eight repeats, two each
-abbrev pub spread : List Repeat → List ℕ
-spread [] = []
-spread (r ∷ rs) = r .start .0 ∷ r .left ∷ spread rs
-
-abbrev pub numbers : List WordIndex → ℕ → List Repeat → List ℕ
-numbers st n rs = map (λ (i : WordIndex). i .0) st ++ (n ∷ spread rs)
-
--- what such numbers are: the returns, how many repeats are open, and the repeats
+-- what is stacked and open, in one array: 16 returns, how many repeats are open, and eight repeats, two numbers each
 abbrev pub indexed : List ℕ → List WordIndex
 indexed ns = map (λ (n : ℕ). record { 0 = n }) ns
 
@@ -84,6 +76,12 @@ nesting st = at st 16
 
 abbrev pub repeats : List ℕ → List Repeat
 repeats st = paired (drop 17 st)
+
+pub record Numbered (is : List WordIndex) (n : ℕ) (rs : List Repeat) (st : List ℕ) : Type 0 where
+  pub full : StackFull st
+  pub stacked : returns st ≡ is
+  pub nested : nesting st ≡ n
+  pub repeated : repeats st ≡ rs
 
 -- the environment that all of it stands for
 abbrev pub look : Bounds → List ℕ → List ℤ → List ℕ → List ℕ → Env

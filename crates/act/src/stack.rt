@@ -7,13 +7,13 @@ ghost use Prim.Native.Nat.{_<_};
 ghost use lib.ListN.{set, getD};
 ghost use Rattle.rules.specs.Environment.{over};
 ghost use Rattle.act.specs.Lent as Lent;
-ghost use Rattle.act.specs.Lent.{StackFull, Nested};
+ghost use Rattle.act.specs.Lent.{StackFull, Numbered, Nested};
 
 pub type Stack = [u32; 33];
 
 // As a run begins.
 pub fn numbers_of(returns: [WordIndex; 16], nesting: u32, repeats: [Repeat; 8]) -> Stack
-    ensures { λ r. ⌜ (r ≡ Lent.numbers returns nesting repeats) × StackFull r ⌝ }
+    ensures { λ r. ⌜ Numbered returns nesting repeats r ⌝ }
 {
     [
         returns[0].0,
@@ -135,7 +135,6 @@ pub fn stack_at(stack: &mut Stack, depth: u32, i: WordIndex)
 
 // How many repeats are open.
 pub fn nesting(stack: &Stack) -> u32
-    requires { ⌜ StackFull (now stack) ⌝ }
     ensures { λ r. ⌜ r ≡ Lent.nesting (now (stack .entry)) ⌝ }
 {
     stack[16]

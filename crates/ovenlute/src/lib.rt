@@ -11,6 +11,7 @@ use rules::answer::Answer;
 use rules::answer::Made;
 use rules::environment::Env;
 use rules::environment::Registers;
+use rules::environment::Repeat;
 use run::bounds::pane_fits;
 use run::bounds::size_fits;
 use wording::Words;
@@ -23,7 +24,8 @@ ghost use Rattle.rules.specs.Door.{Promise};
 ghost use Rattle.rules.specs.Fresh as Fresh;
 ghost use Rattle.wording.specs.Wording.{textOf, wordsOf};
 
-// Variables 0, position and origin (0, 0), clip mode 0, window from the top left to (x, y), counter 0, stack empty, running.
+// Variables 0, position and origin (0, 0), clip mode 0, window from the top left to (x, y), counter 0, stack empty, no repeat
+// open, running.
 fn blank(bounds: Bounds, colour: u8, pattern: u32, x: u32, y: u32) -> Env
     requires { ⌜ (x ≤ 2048) × (y ≤ 2048) ⌝ }
     ensures { λ e. ⌜ held e ≡ Fresh.blank bounds colour pattern (Fresh.corner x y) ⌝ }
@@ -51,6 +53,11 @@ fn blank(bounds: Bounds, colour: u8, pattern: u32, x: u32, y: u32) -> Env
         },
         variables: [0; 64],
         stack: [WordIndex(0); 16],
+        nesting: 0,
+        repeats: [Repeat {
+            start: WordIndex(0),
+            left: 0,
+        }; 8],
     }
 }
 

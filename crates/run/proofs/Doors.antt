@@ -6,43 +6,44 @@ use mathlib.Core.List.{List, [], _∷_}
 use native.Mathlib.Omega.{arith}
 use native.Mathlib.Numerals.{add-one}
 use lib.ListN.{length, getD}
-use lib.Dec.{leb}
-use borrow.Author.Tests.{leb-false}
 use Rattle.numbers.specs.declared.place.WordIndex.{WordIndex}
 use Rattle.rules.specs.Environment.{Env, start, firsts}
-use Rattle.rules.specs.Door.{indices, door}
+use Rattle.rules.specs.Door.{every, door}
 use Rattle.rules.proofs.Ranges.{both, one, other}
 use Rattle.rules.proofs.DoorLaws.{Open, opened}
-use Rattle.act.specs.Lent.{indexed}
-use Rattle.act.proofs.LentLaws.{indexed-at}
+use Rattle.act.specs.Lent.{returns}
+use Rattle.act.proofs.StackLaws.{return-at}
 
--- ---- the stacked indices, one after the other
-bad-index : (d i : ℕ) (st : List WordIndex) → i < d → leb (getD st i start .0) 65536 ≡ false → false ≡ indices (firsts d st)
-unfolding firsts
-bad-index zero i st h p = absurd (omega (arith, h))
-bad-index (suc d) zero [] h p = absurd (omega (arith, leb-false 0 65536 p))
-bad-index (suc d) (suc i) [] h p = bad-index d i [] (omega (arith, h)) p
-bad-index (suc d) zero (x ∷ xs) h p = sym (rw p)
-bad-index (suc d) (suc i) (x ∷ xs) h p =
-    sym (and-false (leb (x .0) 65536)) ∙ ap (λ (t : Bool). leb (x .0) 65536 && t) (bad-index d i xs (omega (arith, h)) p)
+-- ---- what is stacked or open, one after the other: t is what the test says of the one at i
+module _ {A : Type 0} (test : A → Bool) (d : A) where
+  missed : (n i : ℕ) (xs : List A) → i < n → test (getD xs i d) ≡ false → false ≡ every test (firsts d n xs)
+  unfolding firsts
+  missed zero i xs h p = absurd (omega (arith, h))
+  missed (suc n) zero [] h p = sym (rw p)
+  missed (suc n) (suc i) [] h p = sym (and-false (test d)) ∙ ap (λ (t : Bool). test d && t) (missed n i [] (omega (arith, h)) p)
+  missed (suc n) zero (x ∷ xs) h p = sym (rw p)
+  missed (suc n) (suc i) (x ∷ xs) h p = sym (and-false (test x)) ∙ ap (λ (t : Bool). test x && t) (missed n i xs (omega (arith, h)) p)
 
-good-next : (i : ℕ) (st : List WordIndex) → indices (firsts i st) ≡ true → leb (getD st i start .0) 65536 ≡ true → indices (firsts (suc i) st) ≡ true
-unfolding firsts
-good-next zero [] h p = refl
-good-next zero (x ∷ xs) h p = both (leb (x .0) 65536) true p refl
-good-next (suc i) [] h p = both (leb 0 65536) _ refl (good-next i [] (other (leb 0 65536) _ h) p)
-good-next (suc i) (x ∷ xs) h p = both (leb (x .0) 65536) _ (one _ _ h) (good-next i xs (other (leb (x .0) 65536) _ h) p)
+  next : (i : ℕ) (xs : List A) → every test (firsts d i xs) ≡ true → test (getD xs i d) ≡ true → every test (firsts d (suc i) xs) ≡ true
+  unfolding firsts
+  next zero [] h p = both (test d) true p refl
+  next zero (x ∷ xs) h p = both (test x) true p refl
+  next (suc i) [] h p = both (test d) _ (one _ _ h) (next i [] (other (test d) _ h) p)
+  next (suc i) (x ∷ xs) h p = both (test x) _ (one _ _ h) (next i xs (other (test x) _ h) p)
 
--- as they are lent: k is the index at i, and t whether it is in range
-module _ (i : ℕ) (st : List ℕ) {k : WordIndex} {t : Bool} (at : k .0 ≡ getD st i 0) (is : t ≡ leb (k .0) 65536) where
-  tested : leb (getD (indexed st) i start .0) 65536 ≡ t
-  tested = ap (λ (x : WordIndex). leb (x .0) 65536) (indexed-at st i) ∙ (ap (λ (n : ℕ). leb n 65536) (sym at) ∙ sym is)
+  module _ (i : ℕ) (xs : List A) {x : A} {t : Bool} (at : x ≡ getD xs i d) (is : t ≡ test x) where
+    tested : test (getD xs i d) ≡ t
+    tested = ap test (sym at) ∙ sym is
 
-  pub bad : (d : ℕ) → i < d → t ≡ false → false ≡ indices (firsts d (indexed st))
-  bad d h p = bad-index d i (indexed st) h (tested ∙ p)
+    pub bad : (n : ℕ) → i < n → t ≡ false → false ≡ every test (firsts d n xs)
+    bad n h p = missed n i xs h (tested ∙ p)
 
-  pub good : indices (firsts i (indexed st)) ≡ true → t ≡ true → indices (firsts (i + 1) (indexed st)) ≡ true
-  good h p = rw add-one (good-next i (indexed st) h (tested ∙ p))
+    pub good : every test (firsts d i xs) ≡ true → t ≡ true → every test (firsts d (i + 1) xs) ≡ true
+    good h p = rw add-one (next i xs h (tested ∙ p))
+
+-- the index stacked at i, as it is lent
+pub stacked-is : (st : List ℕ) (i : ℕ) → i < 16 → {k : WordIndex} → k .0 ≡ getD st i 0 → k ≡ getD (returns st) i start
+stacked-is st i h at = (λ j. record { 0 = at j }) ∙ sym (return-at st i h)
 
 -- ---- what is let in, by the number d that the door said
 pub let-in : (w s : List ℕ) (e : Env) (budget d : ℕ) → d ≡ door (record { list = w; budget = budget }) e (length s) → d ≡ 0

@@ -21,7 +21,7 @@ use Rattle.player.proofs.Promises
 use Rattle.player.proofs.Doors.{refused-whole, run-whole}
 use Rattle.player.proofs.Hosts.{hosted-obeys}
 use Rattle.rules.specs.declared.environment.Env as Held
-use Rattle.rules.specs.Environment.{Env, env, held, stateOf, kept}
+use Rattle.rules.specs.Environment.{start, over, Env, env, held, stateOf, kept}
 use Rattle.rules.specs.Door.{between, stateFits, door, machine, whole}
 use Rattle.rules.specs.Door as Door
 use Rattle.rules.proofs.Ranges.{one, Fits}
@@ -78,12 +78,14 @@ holding e =
       };
       variables = e .variables;
       stack = e .flow .stack;
+      nesting = length (e .flow .repeats);
+      repeats = e .flow .repeats;
     }
 
 is-held : (e : Env) → stateFits (e .state) ≡ true → held (holding e) ≡ e
 is-held e h =
     λ i. env (e .bounds) (e .variables) (e .pen)
-    (record { counter = e .flow .counter; stack = all-of (e .flow .stack) i; first = e .flow .first; second = e .flow .second })
+    (record { counter = e .flow .counter; stack = all-of start (e .flow .stack) i; repeats = all-of over (e .flow .repeats) i; first = e .flow .first; second = e .flow .second })
     (kept-back (e .state) h i)
 
 pub answers : Answers running

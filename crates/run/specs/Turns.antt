@@ -10,7 +10,7 @@ use Rattle.player.specs.Run.{Answer, answer}
 use Rattle.player.specs.Shown.{verdictOf}
 use Rattle.rules.specs.Environment.{Env}
 use Rattle.rules.specs.Door.{sizeFits, fits}
-use Rattle.act.specs.Lent.{look, CellsFull, PointsFull}
+use Rattle.act.specs.Lent.{look, CellsFull, PointsFull, StackFull}
 
 -- what the door establishes, and every opcode leaves
 pub record Ready (w : List ℕ) (b : Bounds) (cs : List ℕ) (ps : List ℤ) (vs st s : List ℕ) : Type 0 where
@@ -19,7 +19,7 @@ pub record Ready (w : List ℕ) (b : Bounds) (cs : List ℕ) (ps : List ℤ) (vs
   pub points : PointsFull ps
   pub size : sizeFits b ≡ true
   pub ranges : fits (look b cs ps vs st) ≡ true
-  pub full : length st ≡ 16
+  pub stack : StackFull st
   pub area : length s ≡ b .width * b .height
 
 -- what a run of opcodes left, as an answer

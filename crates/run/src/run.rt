@@ -4,8 +4,10 @@ use crate::turns::turns;
 use act::registers::cells_of;
 use act::registers::gathered;
 use act::registers::points_of;
-use act::stack::indices_of;
+use act::stack::nesting;
 use act::stack::numbers_of;
+use act::stack::repeats_of;
+use act::stack::returns_of;
 use numbers::place::WordIndex;
 use player::State;
 use player::Verdict;
@@ -47,7 +49,8 @@ pub fn run(list: &[u16], screen: &mut [u8], env: Env, budget: u32) -> Answer
     let r = env.registers;
     let mut vars = env.variables;
     let returns = env.stack;
-    let mut stack = numbers_of(returns);
+    let repeats = env.repeats;
+    let mut stack = numbers_of(returns, env.nesting, repeats);
     let d = door(list.len(), screen.len(), b, r, &stack, budget);
     if d != 0 {
         return refused(d, env);
@@ -74,7 +77,9 @@ pub fn run(list: &[u16], screen: &mut [u8], env: Env, budget: u32) -> Answer
             bounds: b,
             registers,
             variables: vars,
-            stack: indices_of(stack),
+            stack: returns_of(stack),
+            nesting: nesting(&stack),
+            repeats: repeats_of(stack),
         },
         steps,
     }

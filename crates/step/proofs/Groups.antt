@@ -29,7 +29,7 @@ module _ {m : Meaning} {op : Op} {source : Source} (k : m ≡ Known op source) (
     stacks {st} {st'} r = subst (λ (x : Showing). Stacks u x cs cs' st st') as-shown r
 
     pub goes-stacks : {st : List ℕ} → Stacked cs st → Goes u (answers t (λ o. rule op o (length w))) cs cs' → Stacks u (shows m w pc vs) cs cs' st st
-    goes-stacks {st} a r = stacks (record { cells = r .cells; deep = a .full; tells = λ b ps vs p. r .tells b ps vs st p })
+    goes-stacks {st} a r = stacks (record { cells = r .cells; stack = a .stack; tells = λ b ps vs p. r .tells b ps vs st p })
 
     pub moves : {ps ps' : List ℤ} → Moves u (answers t (λ o. rule op o (length w))) cs cs' ps ps' → Moves u (shows m w pc vs) cs cs' ps ps'
     moves {ps} {ps'} r = subst (λ (x : Showing). Moves u x cs cs' ps ps') as-shown r

@@ -18,7 +18,7 @@ use Rattle.rules.specs.declared.opcode.Operands.{Operands}
 use Rattle.rules.specs.Table.{formOf}
 use Rattle.rules.specs.Meaning.{Meaning, Unknown, Known, meaning}
 use Rattle.rules.specs.Operands.{at, sizeOf, highest, operands}
-use Rattle.rules.specs.Environment.{Env, firsts, stated, stateOf}
+use Rattle.rules.specs.Environment.{Env, start, over, firsts, stated, stateOf}
 use Rattle.rules.specs.Opcodes.{rule}
 use Rattle.rules.specs.Step.{step}
 use Rattle.rules.proofs.StackLaws.{length-firsts}
@@ -28,7 +28,7 @@ use Rattle.rules.proofs.DoorLaws.{logical}
 use Rattle.fetch.specs.declared.source.Taken.the-variants.{Refused, Got}
 use Rattle.fetch.specs.Stages.{Reaches, takenOf}
 use Rattle.fetch.proofs.Steps as Fetched
-use Rattle.act.specs.Lent.{celled, indexed, look}
+use Rattle.act.specs.Lent.{celled, returns, nesting, repeats, look}
 use Rattle.act.specs.Shown.{shown, does, answers}
 use Rattle.act.specs.Contracts.{HaltsHere, Drawable, Stacked, Sets, Stacks, Moves, Draws}
 use Rattle.step.specs.Steps.{shows, Able, Steps}
@@ -47,7 +47,7 @@ module _ {w cs : List ℕ} {ps : List ℤ} {vs st p : List ℕ} where
       record {
         cells = h .1 .full;
         points = r .points;
-        full = r .full;
+        stack = r .stack;
         brush = r .brush;
         tells = λ b.
             let e = look b cs ps vs st in
@@ -85,8 +85,9 @@ module _ {w cs : List ℕ} {ps : List ℤ} {vs st p : List ℕ} where
     stacked =
         record {
           cells = h .ready .cells;
-          deep = omega (arith, leb-true (length (firsts (celled cs .depth) (indexed st))) 16 (in-range .2 .depth), length-firsts (celled cs .depth) (indexed st));
-          full = h .ready .full;
+          deep = omega (arith, leb-true (length (firsts start (celled cs .depth) (returns st))) 16 (in-range .2 .depth), length-firsts start (celled cs .depth) (returns st));
+          nested = omega (arith, leb-true (length (firsts over (nesting st) (repeats st))) 8 (in-range .2 .nesting), length-firsts over (nesting st) (repeats st));
+          stack = h .ready .stack;
         }
 
     -- ---- what the opcode word says
@@ -120,19 +121,19 @@ module _ {w cs : List ℕ} {ps : List ℤ} {vs st p : List ℕ} where
       module _ {u : Upshot} {cs' : List ℕ} where
         pub step-sets : {vs' : List ℕ} → Sets u (shows m w pc vs) cs cs' vs vs' → Steps u w cs ps vs st cs' ps vs' st p
         step-sets r =
-            record { cells = r .cells; points = h .ready .points; full = h .ready .full; brush = h .ready .brush; tells = λ b. r .tells b ps st p ∙ is-step b p }
+            record { cells = r .cells; points = h .ready .points; stack = h .ready .stack; brush = h .ready .brush; tells = λ b. r .tells b ps st p ∙ is-step b p }
 
         pub step-stacks : {st' : List ℕ} → Stacks u (shows m w pc vs) cs cs' st st' → Steps u w cs ps vs st cs' ps vs st' p
         step-stacks r =
-            record { cells = r .cells; points = h .ready .points; full = r .deep; brush = h .ready .brush; tells = λ b. r .tells b ps vs p ∙ is-step b p }
+            record { cells = r .cells; points = h .ready .points; stack = r .stack; brush = h .ready .brush; tells = λ b. r .tells b ps vs p ∙ is-step b p }
 
         pub step-moves : {ps' : List ℤ} → Moves u (shows m w pc vs) cs cs' ps ps' → Steps u w cs ps vs st cs' ps' vs st p
         step-moves r =
-            record { cells = r .cells; points = r .points; full = h .ready .full; brush = h .ready .brush; tells = λ b. r .tells b vs st p ∙ is-step b p }
+            record { cells = r .cells; points = r .points; stack = h .ready .stack; brush = h .ready .brush; tells = λ b. r .tells b vs st p ∙ is-step b p }
 
         pub step-draws : {ps' : List ℤ} {p' : List ℕ} → Draws u (shows m w pc vs) cs cs' ps ps' p' → Steps u w cs ps vs st cs' ps' vs st p'
         step-draws {p' = p'} r =
-            record { cells = r .cells; points = r .points; full = h .ready .full; brush = r .brush; tells = λ b. r .tells b vs st ∙ is-step b p' }
+            record { cells = r .cells; points = r .points; stack = h .ready .stack; brush = r .brush; tells = λ b. r .tells b vs st ∙ is-step b p' }
 
     pub step-21 : meaning (formOf (at w pc)) ≡ Unknown → {u : Upshot} {cs' : List ℕ} → HaltsHere 21 u cs cs' → Steps u w cs ps vs st cs' ps vs st p
     step-21 k halts = refuses (h .ready) 21 (omega arith) halts (λ b. Fetched.step-21 w (look b cs ps vs st) inside (rw (h .counter) at k))

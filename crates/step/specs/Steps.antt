@@ -15,7 +15,7 @@ use Rattle.rules.specs.Environment.{stated}
 use Rattle.rules.specs.Opcodes.{rule}
 use Rattle.rules.specs.Step.{step}
 use Rattle.rules.specs.Door.{fits}
-use Rattle.act.specs.Lent.{look, CellsFull, PointsFull}
+use Rattle.act.specs.Lent.{look, CellsFull, PointsFull, StackFull}
 use Rattle.fetch.specs.Stages.{takenOf}
 use Rattle.act.specs.Shown.{seen, shown, answers}
 use Rattle.act.specs.Contracts.{Showing, Brushed}
@@ -32,13 +32,13 @@ pub record Able (w cs : List ℕ) (ps : List ℤ) (vs st p : List ℕ) : Type 0 
   pub points : PointsFull ps
   pub bounds : Bounds
   pub ranges : fits (look bounds cs ps vs st) ≡ true
-  pub full : length st ≡ 16
+  pub stack : StackFull st
   pub brush : Brushed p
 
 -- what came back from one opcode is what the rules say, with all that is lent before and after, whatever the size and the pane
 pub record Steps (u : Upshot) (w cs : List ℕ) (ps : List ℤ) (vs st cs' : List ℕ) (ps' : List ℤ) (vs' st' p' : List ℕ) : Type 0 where
   pub cells : CellsFull cs'
   pub points : PointsFull ps'
-  pub full : length st' ≡ 16
+  pub stack : StackFull st'
   pub brush : Brushed p'
   pub tells : (b : Bounds) → seen u (look b cs' ps' vs' st') p' ≡ shown (step w (look b cs ps vs st)) (look b cs ps vs st)

@@ -1,6 +1,7 @@
-// The opcodes that go elsewhere, end or do nothing.
+// The opcodes that go elsewhere, repeat, end or do nothing.
 use act::flow;
 use act::registers::Cells;
+use act::repeats;
 use act::stack::Stack;
 use fetch::source::long;
 use fetch::source::plain;
@@ -33,6 +34,8 @@ pub fn step(
         FlowForm::Eodl => flow::end(plain(words, pc, 0), cells),
         FlowForm::Cal => flow::call(long(words, pc), count, cells, stack),
         FlowForm::Calv => flow::call(variables(words, pc, vars, 1), count, cells, stack),
+        FlowForm::Erpt => repeats::end_repeat(plain(words, pc, 0), cells, stack),
+        FlowForm::Rpt => repeats::repeat(plain(words, pc, 1), cells, stack),
         FlowForm::Rtrn => flow::come_back(plain(words, pc, 0), cells, &*stack),
         FlowForm::Jumpa => flow::jump(word_long(words, pc), count, cells),
         FlowForm::Jumpr => flow::jump_by(plain(words, pc, 2), count, cells),

@@ -1,12 +1,11 @@
 -- `numbers_of`: what is read one by one is all there is.
-use mathlib.Core.Path.{refl}
 use borrow.Author.Needs.{needs}
 use Rattle.act.proofs.StackLaws.{all-numbers}
 use Rattle.act.proofs.stack.numbers_of.Statement.{statement}
 use Rattle.act.proofs.stack.numbers_of.Tie as tie
 
 returns : tie.Need-returns
-returns c = (all-numbers (c .args .t1) (c .args .nesting) (c .args .t3) (search needs) (search needs), refl)
+returns c = all-numbers (c .args .t1) (c .args .nesting) (c .args .t3) (search needs) (search needs)
 
 pub numbers-of-spec : {M : Type 1} → statement M
 numbers-of-spec =

@@ -68,7 +68,7 @@ step-requires c κs =
       points = r .points;
       bounds = l .before .before .before .before .before .before .args .b;
       ranges = r .ranges;
-      full = r .full;
+      stack = r .stack;
       brush = (refl, unasked 0 refl refl);
     }
 
@@ -154,7 +154,7 @@ went-on c =
         points = d .step .ensures .points;
         size = g .ready .size;
         ranges = leaves-fits _ (g .ready .few) before (g .ready .ranges) _ (x .dots) (x .shows);
-        full = d .step .ensures .full;
+        stack = d .step .ensures .stack;
         area = turned-long _ x ∙ g .ready .area;
       };
       in-budget = omega (arith, t .loop-test .taken);
