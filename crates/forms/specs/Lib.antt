@@ -1,0 +1,2 @@
+-- What the contracts of forms cite.
+pub mod Layout

@@ -1,4 +1,6 @@
 // Which opcode a word is: the one place of the program where opcode numbers stand.
+pub mod layout; // how it lies in a list
+
 use rules::opcode::FlowForm;
 use rules::opcode::Form;
 use rules::opcode::PaintForm;
