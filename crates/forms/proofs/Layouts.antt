@@ -5,6 +5,7 @@ use mathlib.Core.Bool.{Bool, true, false, cond, true≢false}
 use mathlib.Core.List.{List, [], _∷_}
 use lib.Dec.{leb, eqb}
 use borrow.Author.Tests.{leb-true, eqb-true, eq-eqb}
+use Rattle.rules.specs.declared.opcode.Form.{Form}
 use Rattle.rules.specs.Meaning.{Meaning, Unknown, Known, meaning}
 use Rattle.rules.specs.Table.{Row, find, table, formOf}
 use Rattle.rules.specs.Operands.{sizeOf}
@@ -30,6 +31,11 @@ by-rows t (r ∷ rs) n all none = go (t r.number (meaning r.form)) refl (eqb n r
 pub of-table : (t : ℕ → Meaning → Bool) (n : ℕ) → each t table ≡ true → t n Unknown ≡ true → t n (meaning (formOf n)) ≡ true
 unfolding formOf
 of-table t n all none = by-rows t table n all none
+
+-- ---- the layout of a word is that of its form
+pub by-form : {f : Form} (n : ℕ) → f ≡ formOf n → layoutOf (meaning f) ≡ layoutAt n
+unfolding layoutAt
+by-form n h = ap (λ (f : Form). layoutOf (meaning f)) h
 
 -- ---- sizes: an opcode's words are those of the rules, and there is at least one
 abbrev pub sizeIn : Meaning → ℕ

@@ -1,0 +1,5 @@
+pub mod Places
+pub mod Caps
+pub mod Sequences
+pub mod Blocks
+pub mod Lists
