@@ -28,8 +28,15 @@ pub tells : (w : List ℕ) {x : Reading} → length w ≤ 65536 → x ≡ capped
 tells w short is = ap told is ∙ (sym (told-kept (sequenceAt w 8 start)) ∙ stated w short)
 
 -- the EODL counts as one
-pub enough : (i : WordIndex) (n : ℕ) → n < 1000000 → accepted (n + 1) ≡ told (Eodl i n)
-enough i n few = let h : n + 1 ≤ 1000000 = omega (arith, few) in rw (le-leb (n + 1) 1000000 h)
+module _ (w : List ℕ) {i : WordIndex} {n : ℕ} (short : length w ≤ 65536) (is : Eodl i n ≡ capped (sequenceAt w 8 start)) where
+  pub enough : n < 1000000 → accepted (n + 1) ≡ checked w
+  enough few =
+      let h : n + 1 ≤ 1000000 = omega (arith, few) in
+      let t : accepted (n + 1) ≡ told (Eodl i n) = rw (le-leb (n + 1) 1000000 h) in
+      t ∙ tells w short is
 
-pub too-many : (i : WordIndex) (n : ℕ) → 1000000 ≤ n → refusal (verdict 31) ≡ told (Eodl i n)
-too-many i n many = let h : 1000000 < n + 1 = omega (arith, many) in rw (lt-leb (n + 1) 1000000 h)
+  pub too-many : 1000000 ≤ n → refusal (verdict 31) ≡ checked w
+  too-many many =
+      let h : 1000000 < n + 1 = omega (arith, many) in
+      let t : refusal (verdict 31) ≡ told (Eodl i n) = rw (lt-leb (n + 1) 1000000 h) in
+      t ∙ tells w short is
