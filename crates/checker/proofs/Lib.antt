@@ -6,3 +6,4 @@ pub mod Lists
 pub mod Cases
 pub mod Reach
 pub mod Steps
+pub mod Following
