@@ -7,3 +7,6 @@ pub mod Cases
 pub mod Reach
 pub mod Steps
 pub mod Following
+pub mod Finishes
+pub mod Alike
+pub mod Program

@@ -65,7 +65,7 @@ module _ (w : List ℕ) where
       subst (λ (q : State). Finished (k + suc n) (by-state (afgis w) q e s k (by-opcode (afgis w) (step w e) e s k (λ e' s' j. runs (afgis w) n e' s' j)))) (sym (h .0))
       (turn n (step w e) e s k (h .1) (λ x t q. finished n x t (suc k) q))
 
--- ---- and one that gets to an opcode that is refused, its budget one more
+-- ---- and one that gets to an opcode that is refused, with a larger budget
 pub data Halted (v : Verdict) (n : ℕ) (a : Answer Env) : Type 0 where
   there : a .verdict ≡ v → a .steps ≡ n → Halted v n a
   sooner : 23 ≤ a .verdict .number → a .verdict .number ≤ 26 → a .steps < n → Halted v n a
@@ -74,19 +74,20 @@ abbrev pub Refuses : List ℕ → Verdict → Env → Type 0
 Refuses w v x = (x .state ≡ Running) × (step w x ≡ refused v)
 
 module _ (w : List ℕ) (v : Verdict) where
-  before : (n : ℕ) (o : Outcome Env) (e : Env) (s : List ℕ) (k : ℕ) → Once (λ x. Reach w n (Refuses w v) x) o
-      → ((x : Env) (t : List ℕ) → Reach w n (Refuses w v) x → Halted v (suc k + n) (runs (afgis w) (suc n) x t (suc k)))
-      → Halted v (k + suc n) (by-opcode (afgis w) o e s k (λ e' s' j. runs (afgis w) (suc n) e' s' j))
-  before n (done x p) e s k q on =
+  before : (n left : ℕ) (o : Outcome Env) (e : Env) (s : List ℕ) (k : ℕ) → Once (λ x. Reach w n (Refuses w v) x) o
+      → ((x : Env) (t : List ℕ) → Reach w n (Refuses w v) x → Halted v (suc k + n) (runs (afgis w) left x t (suc k)))
+      → Halted v (k + suc n) (by-opcode (afgis w) o e s k (λ e' s' j. runs (afgis w) left e' s' j))
+  before n left (done x p) e s k q on =
       let same : suc k + n ≡ k + suc n = omega arith in
-      subst (λ (m : ℕ). Halted v m (runs (afgis w) (suc n) x (painted p s) (suc k))) same (on x (painted p s) q)
-  before n (refused u) e s k q on = sooner (q .0) (q .1) (omega arith)
+      subst (λ (m : ℕ). Halted v m (runs (afgis w) left x (painted p s) (suc k))) same (on x (painted p s) q)
+  before n left (refused u) e s k q on = sooner (q .0) (q .1) (omega arith)
 
-  pub halted : (n : ℕ) (e : Env) (s : List ℕ) (k : ℕ) → Reach w n (Refuses w v) e → Halted v (k + n) (runs (afgis w) (suc n) e s k)
+  pub halted : (n budget : ℕ) → n < budget → (e : Env) (s : List ℕ) (k : ℕ) → Reach w n (Refuses w v) e → Halted v (k + n) (runs (afgis w) budget e s k)
   unfolding runs
-  halted zero e s k h =
-      subst (λ (q : State). Halted v (k + 0) (by-state (afgis w) q e s k (by-opcode (afgis w) (step w e) e s k (λ e' s' j. runs (afgis w) 0 e' s' j)))) (sym (h .0))
-      (subst (λ (o : Outcome Env). Halted v (k + 0) (by-opcode (afgis w) o e s k (λ e' s' j. runs (afgis w) 0 e' s' j))) (sym (h .1)) (there refl (omega arith)))
-  halted (suc n) e s k h =
-      subst (λ (q : State). Halted v (k + suc n) (by-state (afgis w) q e s k (by-opcode (afgis w) (step w e) e s k (λ e' s' j. runs (afgis w) (suc n) e' s' j)))) (sym (h .0))
-      (before n (step w e) e s k (h .1) (λ x t q. halted n x t (suc k) q))
+  halted n zero l e s k h = absurd (omega (arith, l))
+  halted zero (suc left) l e s k h =
+      subst (λ (q : State). Halted v (k + 0) (by-state (afgis w) q e s k (by-opcode (afgis w) (step w e) e s k (λ e' s' j. runs (afgis w) left e' s' j)))) (sym (h .0))
+      (subst (λ (o : Outcome Env). Halted v (k + 0) (by-opcode (afgis w) o e s k (λ e' s' j. runs (afgis w) left e' s' j))) (sym (h .1)) (there refl (omega arith)))
+  halted (suc n) (suc left) l e s k h =
+      subst (λ (q : State). Halted v (k + suc n) (by-state (afgis w) q e s k (by-opcode (afgis w) (step w e) e s k (λ e' s' j. runs (afgis w) left e' s' j)))) (sym (h .0))
+      (before n left (step w e) e s k (h .1) (λ x t q. halted n left (omega (arith, l)) x t (suc k) q))
