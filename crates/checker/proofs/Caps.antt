@@ -7,7 +7,6 @@ use native.Mathlib.Nat.{mul-le-mul-right, one-mul}
 use lib.Dec.{leb}
 use borrow.Author.Tests.{leb-true, leb-false, le-leb, lt-leb}
 use Rattle.numbers.specs.declared.place.WordIndex.{WordIndex}
-use Rattle.checker.specs.declared.Checked.{Checked}
 use Rattle.checker.specs.declared.reading.Reading.{Reading}
 use Rattle.checker.specs.declared.reading.Reading.the-variants.{Fault, Eodl, Erpt}
 use Rattle.checker.specs.declared.reading.Closed.{Closed}

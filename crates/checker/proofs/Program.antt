@@ -10,14 +10,14 @@ use Rattle.raster.specs.declared.frame.Bounds.{Bounds}
 use Rattle.player.specs.declared.State.{State}
 use Rattle.player.specs.declared.State.the-variants.{Ended, Stopped}
 use Rattle.player.specs.declared.Verdict.{Verdict}
-use Rattle.player.specs.Player.{fault, verdict}
+use Rattle.player.specs.Player.{fault}
 use Rattle.player.specs.Run.{Answer}
 use Rattle.player.specs.Hosted.{Request}
 use Rattle.player.proofs.Doors.{at-most-14, at-least-10, refused-whole, run-whole}
 use Rattle.rules.specs.declared.environment.Env as Held
 use Rattle.rules.specs.declared.answer.Answer as Came
 use Rattle.rules.specs.declared.answer.Made as Made
-use Rattle.rules.specs.Environment.{Env, held, stateOf, kept}
+use Rattle.rules.specs.Environment.{Env, held, kept}
 use Rattle.rules.specs.Door.{sizeFits, paneFits, fits, door, machine, whole, said, Promise}
 use Rattle.rules.specs.Fresh.{making, fresh, zeros, made}
 use Rattle.rules.specs.Fresh as Fresh

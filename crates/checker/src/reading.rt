@@ -42,7 +42,7 @@ fn broken(number: u8, place: WordIndex) -> Closed
 
 // The sequence that begins at `from`, with room for so many blocks in one another.
 pub fn sequence(list: &[u16], from: WordIndex, room: u32) -> Reading
-    requires { ⌜ (length (now list) ≤ 65536) × (from .0 ≤ length (now list)) × (room ≤ 8) ⌝ }
+    requires { ⌜ (length (now list) ≤ 65536) × (from .0 ≤ length (now list)) ⌝ }
     ensures { λ r. ⌜ r ≡ capped (sequenceAt (now (list .entry)) room from) ⌝ }
 {
     let mut at = from.0 as usize;
@@ -90,7 +90,7 @@ pub fn sequence(list: &[u16], from: WordIndex, room: u32) -> Reading
 
 // The block whose RPT stands at `at`: RPT counts once, the sequence inside and its ERPT once a pass.
 fn block(list: &[u16], at: WordIndex, room: u32) -> Closed
-    requires { ⌜ (length (now list) ≤ 65536) × (at .0 < length (now list)) × (room ≤ 8) ⌝ }
+    requires { ⌜ (length (now list) ≤ 65536) × (at .0 < length (now list)) ⌝ }
     ensures { λ r. ⌜ r ≡ cappedBlock (blockAt (now (list .entry)) room at) ⌝ }
 {
     let i = at.0 as usize;
