@@ -59,30 +59,20 @@ pub fn sequence(list: &[u16], from: WordIndex, room: u32) -> Reading
                 at = at + n;
                 steps = cap(steps + 1);
             }
-            Layout::Ends => {
-                return Reading::Eodl(here, steps);
-            }
-            Layout::Closes => {
-                return Reading::Erpt(here, steps);
-            }
+            Layout::Ends => return Reading::Eodl(here, steps),
+            Layout::Closes => return Reading::Erpt(here, steps),
             Layout::Opens => {
                 let inner = block(list, here, room);
                 match inner {
-                    Closed::Broken(v) => {
-                        return Reading::Fault(v);
-                    }
+                    Closed::Broken(v) => return Reading::Fault(v),
                     Closed::Behind(next, more) => {
                         at = next.0 as usize;
                         steps = cap(steps + more);
                     }
                 }
             }
-            Layout::Strange => {
-                return fault(21, here);
-            }
-            Layout::Flow(_) => {
-                return fault(21, here);
-            }
+            Layout::Strange => return fault(21, here),
+            Layout::Flow(_) => return fault(21, here),
         }
     }
     fault(20, WordIndex(at as u32))
