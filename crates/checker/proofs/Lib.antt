@@ -1,5 +1,6 @@
-pub mod Places
+-- First what the proofs of the readers cite, then the theorems of T-09.
 pub mod Caps
+pub mod Places
 pub mod Sequences
 pub mod Blocks
 pub mod Lists

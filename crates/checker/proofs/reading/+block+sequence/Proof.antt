@@ -52,6 +52,13 @@ sequence-at t = and 1 sequence-kinds.ps (is 1 sequence-kinds.ps μ-sequence t) s
 abbrev sequence-below : ℕ → In 1 sequence-kinds.ps
 sequence-below t = and 1 sequence-kinds.ps (falls 1 sequence-kinds.ps _<_ μ-sequence t) sequence.Pre
 
+-- what is asked and learnt of the functions that each calls
+abbrev block-claims : ℕ → block-lts.Claims
+block-claims t = (broken-reads.Asked, broken-reads.Learnt, extend-reads.Asked, extend-reads.Learnt, past-reads.Asked, past-reads.Learnt, sequence-below t, sequence.Post, cap-reads.Asked, cap-reads.Learnt)
+
+abbrev sequence-claims : ℕ → sequence-lts.Claims
+sequence-claims t = (form-of-reads.Asked, form-of-reads.Learnt, layout-of-reads.Asked, layout-of-reads.Learnt, fault-reads.Asked, fault-reads.Learnt, cap-reads.Asked, cap-reads.Learnt, block-below t, block.Post)
+
 -- the loop of the sequence reader
 abbrev index : ℕ → WordIndex
 index n = record { 0 = n }
@@ -63,26 +70,26 @@ abbrev μ-loop : sequence-lts.MeasureT-loop
 μ-loop list room from steps₀ at steps = length list - at
 
 -- ---- what is known in the block reader: where the count was read, where it was found allowed, at what its sequence came to, and at its ERPT
-counts : (t : ℕ) (d : block-lts.After-extend (broken-reads.Asked, broken-reads.Learnt, extend-reads.Asked, extend-reads.Learnt, past-reads.Asked, past-reads.Learnt, sequence-below t, sequence.Post, cap-reads.Asked, cap-reads.Learnt) (block-at t) block.Post)
+counts : (t : ℕ) (d : block-lts.After-extend (block-claims t) (block-at t) block.Post)
     → let a = d .before .before .before .before .before .args in Counts (a .list .now) (a .at) (d .extend .result)
 counts t d = record { whole = omega (arith, d .before .before .if1 .left, d .before .before .before .before .before .pre .1); is = d .extend .ensures }
 
-counted : (t : ℕ) (d : block-lts.Else3 (broken-reads.Asked, broken-reads.Learnt, extend-reads.Asked, extend-reads.Learnt, past-reads.Asked, past-reads.Learnt, sequence-below t, sequence.Post, cap-reads.Asked, cap-reads.Learnt) (block-at t) block.Post)
+counted : (t : ℕ) (d : block-lts.Else3 (block-claims t) (block-at t) block.Post)
     → let a = d .before .before .before .before .before .before .before .args in Counted (a .list .now) (a .at) (d .before .before .extend .result)
 counted t d = record { counts = counts t (d .before .before); some = pos-of-ne-zero (d .before .if2 .left); few = d .if3 .left }
 
-came : (t : ℕ) (d : block-lts.After-sequence (broken-reads.Asked, broken-reads.Learnt, extend-reads.Asked, extend-reads.Learnt, past-reads.Asked, past-reads.Learnt, sequence-below t, sequence.Post, cap-reads.Asked, cap-reads.Learnt) (block-at t) block.Post)
+came : (t : ℕ) (d : block-lts.After-sequence (block-claims t) (block-at t) block.Post)
     {x : Reading} → d .sequence .result ≡ x
     → let a = d .before .before .before .before .before .before .before .before .before .before .args in
     cappedBlock (repeated (d .before .before .before .before .before .extend .result) x) ≡ cappedBlock (blockAt (a .list .now) (a .room) (a .at))
 came t d is = closes (counted t (d .before .before .before)) (d .before .before .if4 .left) (d .before .past .ensures) (sym is ∙ d .sequence .ensures)
 
-ends : (t : ℕ) (d : block-lts.After-inside3 (broken-reads.Asked, broken-reads.Learnt, extend-reads.Asked, extend-reads.Learnt, past-reads.Asked, past-reads.Learnt, sequence-below t, sequence.Post, cap-reads.Asked, cap-reads.Learnt) (block-at t) block.Post)
+ends : (t : ℕ) (d : block-lts.After-inside3 (block-claims t) (block-at t) block.Post)
     → let v = d .inside3 .given .0 in Closing (d .before .before .before .before .before .before .before .before .before .before .before .before .args .list .now) (v .0 .0) (v .1 .0)
 ends t d = closing _ _ (sym (d .inside3 .given .1) ∙ d .before .before .sequence .ensures)
 
 -- ---- what is known in the sequence reader: where the layout was found, and behind a block
-met : (t : ℕ) (d : sequence-lts.After-layout-of (form-of-reads.Asked, form-of-reads.Learnt, layout-of-reads.Asked, layout-of-reads.Learnt, fault-reads.Asked, fault-reads.Learnt, cap-reads.Asked, cap-reads.Learnt, block-below t, block.Post) (sequence-at t) sequence.Post Inv μ-loop)
+met : (t : ℕ) (d : sequence-lts.After-layout-of (sequence-claims t) (sequence-at t) sequence.Post Inv μ-loop)
     {l : Layout} → d .layout-of .result ≡ l
     → let a = d .before .before .before .before .before .before .before .args in
     let i = d .before .before .before .before .loop in
@@ -94,7 +101,7 @@ met t d is =
       is = sym is ∙ (d .layout-of .ensures ∙ by-form _ (d .before .form-of .ensures));
     }
 
-passes : (t : ℕ) (d : sequence-lts.After-inner2 (form-of-reads.Asked, form-of-reads.Learnt, layout-of-reads.Asked, layout-of-reads.Learnt, fault-reads.Asked, fault-reads.Learnt, cap-reads.Asked, cap-reads.Learnt, block-below t, block.Post) (sequence-at t) sequence.Post Inv μ-loop)
+passes : (t : ℕ) (d : sequence-lts.After-inner2 (sequence-claims t) (sequence-at t) sequence.Post Inv μ-loop)
     → let a = d .before .before .before .before .before .before .before .before .before .before .before .before .args in
     let i = d .before .before .before .before .before .before .before .before .before .loop in
     let v = d .inner2 .given .0 in
@@ -104,7 +111,7 @@ passes t d = passed (met t (d .before .before .before .before .before) (d .befor
 pub +block+sequence-spec : {M : Type 1} → statement M
 +block+sequence-spec =
     close μ-block μ-sequence
-    (λ t. block-lts.spec (broken-reads.Asked, broken-reads.Learnt, extend-reads.Asked, extend-reads.Learnt, past-reads.Asked, past-reads.Learnt, sequence-below t, sequence.Post, cap-reads.Asked, cap-reads.Learnt) (block-at t) block.Post
+    (λ t. block-lts.spec (block-claims t) (block-at t) block.Post
     (λ c. search needs)
     (λ c. search needs)
     (λ c κs. search needs)
@@ -134,7 +141,7 @@ pub +block+sequence-spec : {M : Type 1} → statement M
     (λ c. came t (c .before .before .before) (c .before .inside .given .1))
     (λ c. c .broken5 .ensures ∙ came t (c .before .before .before .before) (c .before .before .inside2 .given .1))
     (λ c. behind _ (c .before .past2 .ensures) (c .cap .ensures) ∙ came t (c .before .before .before .before .before) (c .before .before .before .inside3 .given .1)))
-    (λ t. sequence-lts.spec (form-of-reads.Asked, form-of-reads.Learnt, layout-of-reads.Asked, layout-of-reads.Learnt, fault-reads.Asked, fault-reads.Learnt, cap-reads.Asked, cap-reads.Learnt, block-below t, block.Post) (sequence-at t) sequence.Post
+    (λ t. sequence-lts.spec (sequence-claims t) (sequence-at t) sequence.Post
     Inv
     μ-loop
     (λ c. search needs)
