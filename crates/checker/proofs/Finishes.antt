@@ -1,7 +1,8 @@
 -- Document 02, T-09: given that budget, in a run not refused at the door, what the checker accepts ends in exactly that many steps from a fresh environment, or is
 -- stopped earlier by one of 23 to 26.
-use Prim.Native.Nat.{ℕ, _+_, _<_, _≤_}
+use Prim.Native.Nat.{ℕ, _+_, _*_, _<_, _≤_}
 use mathlib.Core.Path.{_≡_, refl, sym, subst}
+use mathlib.Core.Bool.{true}
 use mathlib.Core.List.{List, []}
 use native.Mathlib.Omega.{arith}
 use native.Mathlib.Nat.{zero-add}
@@ -14,13 +15,14 @@ use Rattle.raster.specs.declared.frame.Bounds.{Bounds}
 use Rattle.player.specs.declared.State.the-variants.{Ended}
 use Rattle.player.specs.Player.{verdict}
 use Rattle.player.specs.Run.{Answer, runs}
-use Rattle.player.proofs.Doors.{run-whole}
+use Rattle.player.proofs.Doors.{opens, run-whole}
 use Rattle.rules.specs.declared.environment.Repeat.{Repeat}
 use Rattle.rules.specs.Operands.{at}
 use Rattle.rules.specs.Environment.{Env, start}
 use Rattle.rules.specs.Step.{step, afgis}
-use Rattle.rules.specs.Door.{door, machine, whole}
+use Rattle.rules.specs.Door.{sizeFits, paneFits, fits, door, machine, whole}
 use Rattle.rules.specs.Fresh.{fresh}
+use Rattle.rules.proofs.DoorLaws.{fresh-fits}
 use Rattle.forms.specs.declared.layout.Layout.the-variants.{Ends}
 use Rattle.forms.specs.Layout.{layoutAt}
 use Rattle.forms.proofs.Layouts.{ends-is}
@@ -50,7 +52,7 @@ module _ (w : List ℕ) where
   )
 
   told-runs : (b : Bounds) (x : Reading) → After w start x → Runs w 8 start x → told x .number ≡ 0 → Reach w (told x .steps) Over (fresh b)
-  told-runs b (Fault v) after go h = absurd (omega (arith, after, h))
+  told-runs b (Fault v) after go h = absurd (omega (arith, after .0, h))
   told-runs b (Erpt i n) after go h = absurd (omega (arith, h))
   told-runs b (Eodl i n) after go h =
       by-test (leb (n + 1) 1000000) (accepted (n + 1)) (refusal (verdict 31)) (λ (c : Checked). c .number ≡ 0 → Reach w (c .steps) Over (fresh b))
@@ -81,22 +83,46 @@ as-stated w s b c is =
     subst (λ (r : Checked). r .number ≡ 0 → door (record { list = w; budget = r .steps }) (fresh b) (length s) ≡ 0 → Finished (r .steps) (whole w s (fresh b) (r .steps))) (sym is)
     (finishes w s b)
 
--- ---- what is stated: 0 with place 0 and 1 to 1,000,000 steps, so that no run is refused for that budget; or a number from 13 on and no steps
+-- ---- what is stated: 0 with 1 to 1,000,000 steps, so that no run is refused for that budget; or 13, 20 to 30 or 31 with none. Only 20 to 30 have a place
 pub data Stated (c : Checked) : Type 0 where
   sound : c .number ≡ 0 → c .place ≡ start → 1 ≤ c .steps → c .steps ≤ 1000000 → Stated c
-  faulty : 13 ≤ c .number → c .steps ≡ 0 → Stated c
+  faulty : 20 ≤ c .number → c .number ≤ 30 → c .steps ≡ 0 → Stated c
+  too-long : c .number ≡ 13 → c .place ≡ start → c .steps ≡ 0 → Stated c
+  too-many : c .number ≡ 31 → c .place ≡ start → c .steps ≡ 0 → Stated c
 
 told-so : (w : List ℕ) (x : Reading) → After w start x → Stated (told x)
-told-so w (Fault v) after = faulty (omega (arith, after)) refl
-told-so w (Erpt i n) after = faulty (lit≤ tt) refl
+told-so w (Fault v) after = faulty (after .0) (after .1) refl
+told-so w (Erpt i n) after = faulty (lit≤ tt) (lit≤ tt) refl
 told-so w (Eodl i n) after =
     by-test (leb (n + 1) 1000000) (accepted (n + 1)) (refusal (verdict 31)) Stated
     (λ few. sound refl refl (omega arith) (leb-true (n + 1) 1000000 few))
-    (λ many. faulty (lit≤ tt) refl)
+    (λ many. too-many refl refl refl)
 
 pub stated : (w : List ℕ) → Stated (checked w)
 unfolding checked
 stated w =
     by-test (leb (length w) 65536) (told (sequenceAt w 8 start)) (refusal (verdict 13)) Stated
     (λ short. told-so w (sequenceAt w 8 start) (reading-after w 8 start))
-    (λ long. faulty (lit≤ tt) refl)
+    (λ long. too-long refl refl refl)
+
+-- ---- so on a screen of its size no such run is refused at the door
+allowed : {c : Checked} → Stated c → c .steps ≤ 1000000
+allowed (sound number place some few) = few
+allowed (faulty low high steps) = omega (arith, steps)
+allowed (too-long number place steps) = omega (arith, steps)
+allowed (too-many number place steps) = omega (arith, steps)
+
+short-enough : (w : List ℕ) → checked w .number ≡ 0 → length w ≤ 65536
+unfolding checked
+short-enough w h =
+    by-test (leb (length w) 65536) (told (sequenceAt w 8 start)) (refusal (verdict 13)) (λ (c : Checked). c .number ≡ 0 → length w ≤ 65536)
+    (λ short p. leb-true (length w) 65536 short)
+    (λ long p. absurd (omega (arith, p)))
+    h
+
+pub let-in : (w s : List ℕ) (b : Bounds) → checked w .number ≡ 0 → sizeFits b ≡ true → paneFits b ≡ true → length s ≡ b .width * b .height
+    → door (record { list = w; budget = checked w .steps }) (fresh b) (length s) ≡ 0
+unfolding door
+let-in w s b ok size pane area =
+    opens (record { list = w; budget = checked w .steps }) b (fits (fresh b)) (length s)
+    (record { size = size; area = area; ranges = fresh-fits b size pane; few = short-enough w ok; short = allowed (stated w) })

@@ -23,15 +23,15 @@ use Rattle.checker.specs.declared.reading.Closed.{Closed}
 use Rattle.checker.specs.declared.reading.Closed.the-variants.{Broken, Behind}
 use Rattle.checker.specs.Reading.{longer, joined, opcode, sequence, count, repeated, opening, blockAt, sequenceAt}
 
--- a fault's number is 20 or more; what closes a sequence read from pc stands at pc or later, in the list
+-- a fault's number is 20 to 30; what closes a sequence read from pc stands at pc or later, in the list
 abbrev pub After : List ℕ → WordIndex → Reading → Type 0
-After w pc (Fault v) = 20 ≤ v .number
+After w pc (Fault v) = (20 ≤ v .number) × (v .number ≤ 30)
 After w pc (Eodl i n) = (pc .0 ≤ i .0) × (i .0 < length w) × (layoutAt (at w (i .0)) ≡ Ends)
 After w pc (Erpt i n) = (pc .0 ≤ i .0) × (i .0 < length w) × (layoutAt (at w (i .0)) ≡ Closes)
 
 -- what is behind a block at pc is later
 abbrev pub Onward : List ℕ → WordIndex → Closed → Type 0
-Onward w pc (Broken v) = 20 ≤ v .number
+Onward w pc (Broken v) = (20 ≤ v .number) × (v .number ≤ 30)
 Onward w pc (Behind i k) = (pc .0 < i .0) × (i .0 ≤ length w)
 
 longer-after : (w : List ℕ) (pc next : WordIndex) (k : ℕ) (x : Reading) → pc .0 ≤ next .0 → After w next x → After w pc (longer k x)
@@ -46,12 +46,12 @@ plain-words m n is = subst (λ (l : Layout). 1 ≤ words l) is (some-words m)
 module _ (w : List ℕ) (inner : WordIndex → Closed) (onward : (pc : WordIndex) → Onward w pc (inner pc)) where
   opcode-after : (on : WordIndex → Reading) (pc : WordIndex) → pc .0 < length w → ((next : WordIndex) → pc .0 < next .0 → After w next (on next))
       → (l : Layout) → layoutAt (at w (pc .0)) ≡ l → After w pc (opcode w inner on pc l)
-  opcode-after on pc inside later Strange is = lit≤ tt
-  opcode-after on pc inside later (Flow n) is = lit≤ tt
+  opcode-after on pc inside later Strange is = (lit≤ tt, lit≤ tt)
+  opcode-after on pc inside later (Flow n) is = (lit≤ tt, lit≤ tt)
   opcode-after on pc inside later (Plain n) is =
       let some = plain-words (at w (pc .0)) n is in
       by-test (ltb (length w) (pc .0 + n)) (Fault (fault 22 pc)) (longer 1 (on (past pc n))) (After w pc)
-      (λ cut. lit≤ tt)
+      (λ cut. (lit≤ tt, lit≤ tt))
       (λ whole. longer-after w pc (past pc n) 1 (on (past pc n)) (omega arith) (later (past pc n) (omega (arith, some))))
   opcode-after on pc inside later Ends is = (omega arith, inside, is)
   opcode-after on pc inside later Closes is = (omega arith, inside, is)
@@ -63,10 +63,10 @@ module _ (w : List ℕ) (inner : WordIndex → Closed) (onward : (pc : WordIndex
 
   sequence-after : (more : ℕ) (pc : WordIndex) → After w pc (sequence w inner more pc)
   unfolding sequence
-  sequence-after zero pc = lit≤ tt
+  sequence-after zero pc = (lit≤ tt, lit≤ tt)
   sequence-after (suc more) pc =
       by-test (leb (length w) (pc .0)) (Fault (fault 20 pc)) (opcode w inner (λ next. sequence w inner more next) pc (layoutAt (at w (pc .0)))) (After w pc)
-      (λ out. lit≤ tt)
+      (λ out. (lit≤ tt, lit≤ tt))
       (λ here. opcode-after (λ next. sequence w inner more next) pc (leb-false (length w) (pc .0) here) (λ next l. sequence-after more next) (layoutAt (at w (pc .0))) refl)
 
   -- ---- more opcodes than words make no difference
@@ -98,18 +98,18 @@ module _ (w : List ℕ) (inner : WordIndex → Closed) (onward : (pc : WordIndex
 -- ---- blocks
 repeated-onward : (w : List ℕ) (pc : WordIndex) (c : ℕ) (x : Reading) → After w (past pc 2) x → Onward w pc (repeated c x)
 repeated-onward w pc c (Fault v) h = h
-repeated-onward w pc c (Eodl i n) h = lit≤ tt
+repeated-onward w pc c (Eodl i n) h = (lit≤ tt, lit≤ tt)
 repeated-onward w pc c (Erpt i n) h = (omega (arith, h .0), omega (arith, h .1))
 
 opening-onward : (w : List ℕ) (pc : WordIndex) (x : Closed) → Onward w pc x → Onward w pc (opening w pc x)
 opening-onward w pc x h =
     by-test (ltb (length w) (pc .0 + 2)) (Broken (fault 22 pc)) (cond (countable (count w pc)) x (Broken (fault 24 pc))) (Onward w pc)
-    (λ cut. lit≤ tt)
-    (λ whole. by-test (countable (count w pc)) x (Broken (fault 24 pc)) (Onward w pc) (λ good. h) (λ bad. lit≤ tt))
+    (λ cut. (lit≤ tt, lit≤ tt))
+    (λ whole. by-test (countable (count w pc)) x (Broken (fault 24 pc)) (Onward w pc) (λ good. h) (λ bad. (lit≤ tt, lit≤ tt)))
 
 pub block-onward : (w : List ℕ) (room : ℕ) (pc : WordIndex) → Onward w pc (blockAt w room pc)
 unfolding blockAt
-block-onward w zero pc = opening-onward w pc (Broken (fault 28 pc)) (lit≤ tt)
+block-onward w zero pc = opening-onward w pc (Broken (fault 28 pc)) (lit≤ tt, lit≤ tt)
 block-onward w (suc room) pc =
     let x = sequence w (λ i. blockAt w room i) (length w) (past pc 2) in
     opening-onward w pc (repeated (count w pc) x)
