@@ -29,19 +29,21 @@ calls =
     14 says "the budget is above 1,000,000" ∷
     []
 
--- an opcode's, at which the list stopped
+-- an opcode's, at which the list stopped; 30 and 31 are told by the checker alone
 abbrev pub opcodes : List Line
 opcodes =
     20 says "the counter is at or past the list's end" ∷
     21 says "no opcode" ∷
     22 says "the list ends inside the opcode" ∷
     23 says "a variable above 63" ∷
-    24 says "a mode, type or condition that is not allowed" ∷
+    24 says "a mode, type, condition or count that is not allowed" ∷
     25 says "a coordinate or offset not -32,768 to 32,767, a radius not 0 to 32,767, a length above 65,536" ∷
     26 says "the divisor is zero" ∷
     27 says "a target that is not allowed" ∷
-    28 says "a call with 16 returns stacked" ∷
-    29 says "a return with none stacked" ∷
+    28 says "a call with 16 returns stacked, or a repeat with eight open" ∷
+    29 says "a return with none stacked, or the end of a repeat with none open" ∷
+    30 says "an EODL inside a repeat" ∷
+    31 says "more than 1,000,000 steps are needed" ∷
     []
 
 abbrev pub others : String

@@ -41,7 +41,11 @@ fn opcode_words(number: u8) -> Words
         21 => told(number, 21, b"no opcode"),
         22 => told(number, 22, b"the list ends inside the opcode"),
         23 => told(number, 23, b"a variable above 63"),
-        24 => told(number, 24, b"a mode, type or condition that is not allowed"),
+        24 => told(
+            number,
+            24,
+            b"a mode, type, condition or count that is not allowed",
+        ),
         25 => told(
             number,
             25,
@@ -49,8 +53,18 @@ fn opcode_words(number: u8) -> Words
         ),
         26 => told(number, 26, b"the divisor is zero"),
         27 => told(number, 27, b"a target that is not allowed"),
-        28 => told(number, 28, b"a call with 16 returns stacked"),
-        29 => told(number, 29, b"a return with none stacked"),
+        28 => told(
+            number,
+            28,
+            b"a call with 16 returns stacked, or a repeat with eight open",
+        ),
+        29 => told(
+            number,
+            29,
+            b"a return with none stacked, or the end of a repeat with none open",
+        ),
+        30 => told(number, 30, b"an EODL inside a repeat"),
+        31 => told(number, 31, b"more than 1,000,000 steps are needed"),
         _ => other(number),
     }
 }
