@@ -7,7 +7,7 @@ use native.Mathlib.Omega.{arith}
 use borrow.Author.Tests.{lt-ltb, le-ltb, eq-eqb, ne-eqb}
 use lib.Dec.{ltb, eqb}
 use lib.IntN.{ℤ}
-use lib.ListN.{length, getD, take, drop, length-drop}
+use lib.ListN.{length, getD, set, take, drop, length-drop}
 use lib.Seq.{take-all}
 use Rattle.numbers.specs.Number.{signed32}
 use Rattle.raster.specs.declared.dots.Dot.{Dot}
@@ -15,6 +15,7 @@ use Rattle.raster.specs.declared.frame.Bounds.{Bounds}
 use Rattle.raster.specs.declared.frame.Window.{Window}
 use Rattle.rules.specs.declared.environment.Env.{Env}
 use Rattle.rules.specs.declared.environment.Registers.{Registers}
+use Rattle.rules.specs.declared.environment.Repeat.{Repeat}
 use Rattle.text.specs.declared.number.Number.{Number}
 use Rattle.text.specs.declared.number.Number.the-variants as Number
 use Rattle.text.specs.declared.number.Flaw.{Flaw}
@@ -28,10 +29,12 @@ use Rattle.desk.specs.declared.field.Bound.{Bound}
 use Rattle.desk.specs.declared.field.Axis.{Axis}
 use Rattle.desk.specs.declared.field.Corner.{Corner}
 use Rattle.desk.specs.declared.field.Register.{Register}
+use Rattle.desk.specs.declared.field.Part.{Part}
+use Rattle.desk.specs.declared.field.Part.the-variants.{Start, Left}
 use Rattle.desk.specs.Desks.{fine, wrong, withEnv}
 use Rattle.desk.specs.Faults.{faultOf}
 use Rattle.desk.specs.Fields.{fieldOf}
-use Rattle.desk.specs.Sets.{withBound, withAxis, withCorner, withRegister, positioned, based, windowed, bounded, registered, withField, stored, numbered, setVariable, setReturn, setNamed, setField}
+use Rattle.desk.specs.Sets.{withBound, withAxis, withCorner, withRegister, withPart, positioned, based, windowed, bounded, registered, withField, none, withRepeats, withRepeat, stored, numbered, setVariable, setReturn, setRepeat, setNamed, setField}
 
 -- ---- a part with one number set, where the match has told which
 pub bound-is : {x : Bound} (y : Bound) (n : ℕ) (b : Bounds) → x ≡ y → withBound y n b ≡ withBound x n b
@@ -45,6 +48,9 @@ corner-is y w e h = ap₂ (λ (x : Corner) (z : ℤ). withCorner x z w) (sym e) 
 
 pub register-is : {x : Register} (y : Register) (n : ℕ) (r : Registers) → x ≡ y → withRegister y n r ≡ withRegister x n r
 register-is y n r e = ap (λ (x : Register). withRegister x n r) (sym e)
+
+pub part-is : {x : Part} (y : Part) (n : ℕ) (r : Repeat) → x ≡ y → withPart y n r ≡ withPart x n r
+part-is y n r e = ap (λ (x : Part). withPart x n r) (sym e)
 
 -- ---- the environment with that part
 module _ (n : ℕ) (e : Env) {field : Field} where
@@ -71,6 +77,12 @@ module _ (n : ℕ) (e : Env) {field : Field} where
 
   pub a-register : {r : Register} {rs : Registers} → field ≡ Field.Register r → rs ≡ withRegister r n (e .registers) → registered rs e ≡ withField field n e
   a-register p q = ap (λ (x : Registers). registered x e) q ∙ ap (λ (f : Field). withField f n e) (sym p)
+
+  pub the-nesting : field ≡ Field.Nesting → withField Field.Nesting n e ≡ withField field n e
+  the-nesting p = ap (λ (f : Field). withField f n e) (sym p)
+
+pub a-part : (p : Part) {r : Repeat} (i n : ℕ) (e : Env) → r ≡ withPart p n (getD (e .repeats) i none) → withRepeats (set (e .repeats) i r) e ≡ withRepeat p i n e
+a-part p i n e h = ap (λ (r : Repeat). withRepeats (set (e .repeats) i r) e) h
 
 -- ---- what the line leaves
 module _ (d : Desk) (put : ℕ → Env) {read : Number} {r : Carried} where
@@ -101,10 +113,14 @@ no-name d [] v h = refl
 no-name d (b ∷ bs) v h = absurd (omega arith)
 
 module _ (d : Desk) (s v : List ℕ) where
-  abbrev byFirst : Bool → Bool → Carried
-  byFirst x y = cond x (setVariable d (drop 1 s) v) (cond y (setReturn d (drop 1 s) v) (setNamed d (fieldOf s) v))
+  abbrev byFirst : Bool → Bool → Bool → Bool → Carried
+  byFirst x y b p =
+      cond x (setVariable d (drop 1 s) v)
+      (cond y (setReturn d (drop 1 s) v)
+      (cond b (setRepeat d Start (drop 1 s) v)
+      (cond p (setRepeat d Left (drop 1 s) v) (setNamed d (fieldOf s) v))))
 
-by-first : (d : Desk) (s v : List ℕ) → (length s ≡ 0 → ⊥) → setField d s v ≡ byFirst d s v (eqb (getD s 0 0) 86) (eqb (getD s 0 0) 83)
+by-first : (d : Desk) (s v : List ℕ) → (length s ≡ 0 → ⊥) → let f = getD s 0 0 in setField d s v ≡ byFirst d s v (eqb f 86) (eqb f 83) (eqb f 66) (eqb f 80)
 unfolding setField
 by-first d [] v n = absurd (n refl)
 by-first d (b ∷ bs) v n = refl
@@ -113,19 +129,37 @@ module _ (d : Desk) (s v : List ℕ) (n : length s ≡ 0 → ⊥) where
   abbrev number : List ℕ
   number = take (length s - 1) (drop 1 s)
 
+  abbrev first : ℕ
+  first = getD s 0 0
+
   behind : number ≡ drop 1 s
   behind = take-all (length s - 1) (drop 1 s) (omega (arith, length-drop 1 s))
 
-  pub a-variable : getD s 0 0 ≡ 86 → setVariable d number v ≡ setField d s v
+  pub a-variable : first ≡ 86 → setVariable d number v ≡ setField d s v
   a-variable e =
       ap (λ (x : List ℕ). setVariable d x v) behind
-      ∙ sym (by-first d s v n ∙ ap (λ (t : Bool). byFirst d s v t (eqb (getD s 0 0) 83)) (eq-eqb (getD s 0 0) 86 e))
+      ∙ sym (by-first d s v n ∙ ap (λ (t : Bool). byFirst d s v t (eqb first 83) (eqb first 66) (eqb first 80)) (eq-eqb first 86 e))
 
-  module _ (m : getD s 0 0 ≡ 86 → ⊥) where
-    pub a-return : getD s 0 0 ≡ 83 → setReturn d number v ≡ setField d s v
+  module _ (m : first ≡ 86 → ⊥) where
+    pub a-return : first ≡ 83 → setReturn d number v ≡ setField d s v
     a-return e =
         ap (λ (x : List ℕ). setReturn d x v) behind
-        ∙ sym (by-first d s v n ∙ ap₂ (byFirst d s v) (ne-eqb (getD s 0 0) 86 m) (eq-eqb (getD s 0 0) 83 e))
+        ∙ sym (by-first d s v n ∙ ap₂ (λ (x y : Bool). byFirst d s v x y (eqb first 66) (eqb first 80)) (ne-eqb first 86 m) (eq-eqb first 83 e))
 
-    pub a-name : (getD s 0 0 ≡ 83 → ⊥) → setNamed d (fieldOf s) v ≡ setField d s v
-    a-name k = sym (by-first d s v n ∙ ap₂ (byFirst d s v) (ne-eqb (getD s 0 0) 86 m) (ne-eqb (getD s 0 0) 83 k))
+    module _ (k : first ≡ 83 → ⊥) where
+      neither : setField d s v ≡ byFirst d s v false false (eqb first 66) (eqb first 80)
+      neither = by-first d s v n ∙ ap₂ (λ (x y : Bool). byFirst d s v x y (eqb first 66) (eqb first 80)) (ne-eqb first 86 m) (ne-eqb first 83 k)
+
+      pub a-start : first ≡ 66 → setRepeat d Start number v ≡ setField d s v
+      a-start e =
+          ap (λ (x : List ℕ). setRepeat d Start x v) behind
+          ∙ sym (neither ∙ ap (λ (t : Bool). byFirst d s v false false t (eqb first 80)) (eq-eqb first 66 e))
+
+      module _ (l : first ≡ 66 → ⊥) where
+        pub a-left : first ≡ 80 → setRepeat d Left number v ≡ setField d s v
+        a-left e =
+            ap (λ (x : List ℕ). setRepeat d Left x v) behind
+            ∙ sym (neither ∙ ap₂ (byFirst d s v false false) (ne-eqb first 66 l) (eq-eqb first 80 e))
+
+        pub a-name : (first ≡ 80 → ⊥) → setNamed d (fieldOf s) v ≡ setField d s v
+        a-name q = sym (neither ∙ ap₂ (byFirst d s v false false) (ne-eqb first 66 l) (ne-eqb first 80 q))

@@ -7,16 +7,16 @@ use lib.ListN.{getD}
 use Rattle.text.specs.Items.{items, placeIn}
 use Rattle.text.specs.Bytes.{bytes}
 use Rattle.desk.specs.declared.command.Command as Line
-use Rattle.desk.specs.declared.command.Command.the-variants.{Nothing, Heading, Fresh, Set, Bytes, Budget, List as Words, Run, Lit, Unknown}
+use Rattle.desk.specs.declared.command.Command.the-variants.{Nothing, Heading, Fresh, Set, Bytes, Budget, List as Words, Run, Lit, Check, Unknown}
 use Rattle.desk.specs.declared.fault.Outcome.{Outcome}
 use Rattle.desk.specs.declared.fault.Outcome.the-variants.{Fine, Wrong}
 use Rattle.desk.specs.declared.fault.Fault.the-variants.{Missing, Extra}
 
 abbrev pub commands : List Line.Command
-commands = Fresh ∷ Set ∷ Bytes ∷ Budget ∷ Words ∷ Run ∷ Lit ∷ []
+commands = Fresh ∷ Set ∷ Bytes ∷ Budget ∷ Words ∷ Run ∷ Lit ∷ Check ∷ []
 
 unfoldable pub names : List (List ℕ)
-names = items (bytes "fresh set bytes budget list run lit")
+names = items (bytes "fresh set bytes budget list run lit check")
 
 unfoldable pub named : List ℕ → Line.Command
 named name = getD commands (placeIn name names) Unknown
@@ -37,6 +37,7 @@ asked Budget = 2
 asked Words = 0
 asked Run = 1
 asked Lit = 3
+asked Check = 1
 asked Unknown = 0
 
 unfoldable pub has : ℕ → ℕ → Outcome

@@ -7,7 +7,7 @@ use Rattle.text.specs.Bytes.{bytes}
 use Rattle.text.specs.Number.{decimalOf, atMost, signedOf}
 use Rattle.text.specs.declared.number.Number.{Number}
 use Rattle.desk.specs.declared.field.Field.{Field}
-use Rattle.desk.specs.declared.field.Field.the-variants.{Bound, Position, Origin, Corner, Register}
+use Rattle.desk.specs.declared.field.Field.the-variants.{Bound, Position, Origin, Corner, Register, Nesting}
 use Rattle.desk.specs.declared.field.Found.{Found}
 use Rattle.desk.specs.declared.field.Found.the-variants.{Is, Nothing}
 use Rattle.desk.specs.declared.field.Bound.the-variants.{Width, Height, Left, Top, Right, Bottom}
@@ -24,10 +24,11 @@ fields =
     ∷ Position X ∷ Position Y
     ∷ Origin X ∷ Origin Y
     ∷ Corner X0 ∷ Corner Y0 ∷ Corner X1 ∷ Corner Y1
-    ∷ Register Mode ∷ Register Pattern ∷ Register First ∷ Register Second ∷ Register Counter ∷ Register Depth ∷ Register Place ∷ Register Colour ∷ Register State ∷ []
+    ∷ Register Mode ∷ Register Pattern ∷ Register First ∷ Register Second ∷ Register Counter ∷ Register Depth ∷ Register Place ∷ Register Colour ∷ Register State
+    ∷ Nesting ∷ []
 
 unfoldable pub names : List (List ℕ)
-names = items (bytes "width height left top right bottom x y ox oy x0 y0 x1 y1 mode pattern first second counter depth place colour state")
+names = items (bytes "width height left top right bottom x y ox oy x0 y0 x1 y1 mode pattern first second counter depth place colour state nesting")
 
 unfoldable pub fieldOf : List ℕ → Found
 fieldOf name = getD (map Is fields) (placeIn name names) Nothing
@@ -51,6 +52,7 @@ kindOf (Position a) = Signed
 kindOf (Origin a) = Signed
 kindOf (Corner c) = Signed
 kindOf (Register r) = kindOfRegister r
+kindOf Nesting = Unsigned
 
 abbrev pub readAs : Kind → List ℕ → Number
 readAs Unsigned v = decimalOf v

@@ -4,7 +4,7 @@ use mathlib.Core.Bool.{cond}
 use mathlib.Core.List.{List, [], _∷_}
 use lib.Dec.{ltb, eqb}
 use lib.IntN.{ℤ}
-use lib.ListN.{set}
+use lib.ListN.{set, getD}
 use Rattle.numbers.specs.Number.{signed32}
 use Rattle.numbers.specs.declared.place.WordIndex.{WordIndex}
 use Rattle.raster.specs.declared.dots.Dot.{Dot}
@@ -13,6 +13,7 @@ use Rattle.raster.specs.declared.frame.Pane.{Pane}
 use Rattle.raster.specs.declared.frame.Window.{Window}
 use Rattle.rules.specs.declared.environment.Env.{Env}
 use Rattle.rules.specs.declared.environment.Registers.{Registers}
+use Rattle.rules.specs.declared.environment.Repeat.{Repeat}
 use Rattle.text.specs.Number.{decimalOf, signedOf}
 use Rattle.text.specs.declared.number.Number.{Number}
 use Rattle.text.specs.declared.number.Number.the-variants as Number
@@ -31,6 +32,8 @@ use Rattle.desk.specs.declared.field.Corner.{Corner}
 use Rattle.desk.specs.declared.field.Corner.the-variants.{X0, Y0, X1, Y1}
 use Rattle.desk.specs.declared.field.Register.{Register}
 use Rattle.desk.specs.declared.field.Register.the-variants.{Mode, Pattern, First, Second, Counter, Depth, Place, Colour, State}
+use Rattle.desk.specs.declared.field.Part.{Part}
+use Rattle.desk.specs.declared.field.Part.the-variants.{Start, Left as Passes}
 use Rattle.desk.specs.Desks.{fine, wrong, withEnv}
 use Rattle.desk.specs.Faults.{faultOf}
 use Rattle.desk.specs.Fields.{fieldOf, kindOf, readAs}
@@ -53,6 +56,10 @@ withBound Bottom n b = let p = b.pane in bounds b.width b.height (pane p.left p.
 abbrev pub withAxis : Axis → ℤ → Dot → Dot
 withAxis X z p = record { x = z; y = p.y }
 withAxis Y z p = record { x = p.x; y = z }
+
+abbrev pub withPart : Part → ℕ → Repeat → Repeat
+withPart Start n r = record { start = record { 0 = n }; left = r.left }
+withPart Passes n r = record { start = r.start; left = n }
 
 abbrev window : ℤ → ℤ → ℤ → ℤ → Window
 window a b c d = record { x0 = a; y0 = b; x1 = c; y1 = d }
@@ -90,10 +97,10 @@ windowed w r = registers r.position r.origin w r.mode r.pattern r.first r.second
 
 -- ---- one field of the environment
 abbrev pub bounded : Bounds → Env → Env
-bounded b e = record { bounds = b; registers = e.registers; variables = e.variables; stack = e.stack }
+bounded b e = record { bounds = b; registers = e.registers; variables = e.variables; stack = e.stack; nesting = e.nesting; repeats = e.repeats }
 
 abbrev pub registered : Registers → Env → Env
-registered r e = record { bounds = e.bounds; registers = r; variables = e.variables; stack = e.stack }
+registered r e = record { bounds = e.bounds; registers = r; variables = e.variables; stack = e.stack; nesting = e.nesting; repeats = e.repeats }
 
 abbrev pub withField : Field → ℕ → Env → Env
 withField (Field.Bound b) n e = bounded (withBound b n e.bounds) e
@@ -101,12 +108,23 @@ withField (Field.Position a) n e = registered (positioned (withAxis a (signed32 
 withField (Field.Origin a) n e = registered (based (withAxis a (signed32 n) (e .registers .origin)) e.registers) e
 withField (Field.Corner c) n e = registered (windowed (withCorner c (signed32 n) (e .registers .window)) e.registers) e
 withField (Field.Register r) n e = registered (withRegister r n e.registers) e
+withField Field.Nesting n e = record { bounds = e.bounds; registers = e.registers; variables = e.variables; stack = e.stack; nesting = n; repeats = e.repeats }
 
 abbrev pub withVariable : ℕ → ℕ → Env → Env
-withVariable i n e = record { bounds = e.bounds; registers = e.registers; variables = set e.variables i n; stack = e.stack }
+withVariable i n e = record { bounds = e.bounds; registers = e.registers; variables = set e.variables i n; stack = e.stack; nesting = e.nesting; repeats = e.repeats }
 
 abbrev pub withReturn : ℕ → ℕ → Env → Env
-withReturn i n e = record { bounds = e.bounds; registers = e.registers; variables = e.variables; stack = set e.stack i (record { 0 = n }) }
+withReturn i n e = record { bounds = e.bounds; registers = e.registers; variables = e.variables; stack = set e.stack i (record { 0 = n }); nesting = e.nesting; repeats = e.repeats }
+
+-- where a list of repeats has none
+abbrev pub none : Repeat
+none = record { start = record { 0 = 0 }; left = 0 }
+
+abbrev pub withRepeats : List Repeat → Env → Env
+withRepeats rs e = record { bounds = e.bounds; registers = e.registers; variables = e.variables; stack = e.stack; nesting = e.nesting; repeats = rs }
+
+abbrev pub withRepeat : Part → ℕ → ℕ → Env → Env
+withRepeat p i n e = withRepeats (set e.repeats i (withPart p n (getD e.repeats i none))) e
 
 -- ---- what the line leaves
 abbrev pub stored : Desk → (ℕ → Env) → Number → Carried
@@ -124,6 +142,9 @@ setVariable d number value = numbered 63 d (λ i n. withVariable i n d.env) (dec
 abbrev pub setReturn : Desk → List ℕ → List ℕ → Carried
 setReturn d number value = numbered 15 d (λ i n. withReturn i n d.env) (decimalOf number) (decimalOf value)
 
+abbrev pub setRepeat : Desk → Part → List ℕ → List ℕ → Carried
+setRepeat d p number value = numbered 7 d (λ i n. withRepeat p i n d.env) (decimalOf number) (decimalOf value)
+
 abbrev pub setKnown : Desk → Field → List ℕ → Carried
 setKnown d f value = stored d (λ n. withField f n d.env) (readAs (kindOf f) value)
 
@@ -131,8 +152,11 @@ abbrev pub setNamed : Desk → Found → List ℕ → Carried
 setNamed d (Found.Is f) value = setKnown d f value
 setNamed d Found.Nothing value = wrong d NoField
 
--- 86 is 'V', and 83 'S'
+-- 86 is 'V', 83 'S', 66 'B', and 80 'P'
 unfoldable pub setField : Desk → List ℕ → List ℕ → Carried
 setField d [] value = wrong d NoField
 setField d (b ∷ bs) value =
-    cond (eqb b 86) (setVariable d bs value) (cond (eqb b 83) (setReturn d bs value) (setNamed d (fieldOf (b ∷ bs)) value))
+    cond (eqb b 86) (setVariable d bs value)
+    (cond (eqb b 83) (setReturn d bs value)
+    (cond (eqb b 66) (setRepeat d Start bs value)
+    (cond (eqb b 80) (setRepeat d Passes bs value) (setNamed d (fieldOf (b ∷ bs)) value))))

@@ -19,6 +19,7 @@ pub enum Command {
     List,
     Run,
     Lit,
+    Check,
     Unknown,
 }
 
@@ -41,7 +42,7 @@ pub fn command_of(line: &[u8]) -> Command
 fn named(name: &[u8]) -> Command
     ensures { λ r. ⌜ r ≡ commandNamed (now (name .entry)) ⌝ }
 {
-    match place_in(b"fresh set bytes budget list run lit", name) {
+    match place_in(b"fresh set bytes budget list run lit check", name) {
         0 => Command::Fresh,
         1 => Command::Set,
         2 => Command::Bytes,
@@ -49,6 +50,7 @@ fn named(name: &[u8]) -> Command
         4 => Command::List,
         5 => Command::Run,
         6 => Command::Lit,
+        7 => Command::Check,
         _ => Command::Unknown,
     }
 }
@@ -74,6 +76,7 @@ fn asked(command: Command) -> usize
         Command::List => 0,
         Command::Run => 1,
         Command::Lit => 3,
+        Command::Check => 1,
         Command::Unknown => 0,
     }
 }

@@ -1,4 +1,4 @@
-// The fields of the environment that are no arrays: their names, and the values that they take.
+// The fields of the environment that are no arrays: their names, and the values that they take; and the two parts of a repeat.
 use text::items::place_in;
 use text::number::Number;
 use text::number::at_most;
@@ -13,6 +13,7 @@ pub enum Field {
     Origin(Axis),
     Corner(Corner),
     Register(Register),
+    Nesting,
 }
 
 // What a name stands for.
@@ -54,12 +55,18 @@ pub enum Register {
     State,
 }
 
+// Where the block of a repeat begins, and how many passes are left.
+pub enum Part {
+    Start,
+    Left,
+}
+
 // The field of that name: each number is the place of a name.
 pub fn field_of(name: &[u8]) -> Found
     ensures { λ r. ⌜ r ≡ fieldOf (now (name .entry)) ⌝ }
 {
     let names =
-        b"width height left top right bottom x y ox oy x0 y0 x1 y1 mode pattern first second counter depth place colour state";
+        b"width height left top right bottom x y ox oy x0 y0 x1 y1 mode pattern first second counter depth place colour state nesting";
     match place_in(names, name) {
         0 => Found::Is(Field::Bound(Bound::Width)),
         1 => Found::Is(Field::Bound(Bound::Height)),
@@ -84,6 +91,7 @@ pub fn field_of(name: &[u8]) -> Found
         20 => Found::Is(Field::Register(Register::Place)),
         21 => Found::Is(Field::Register(Register::Colour)),
         22 => Found::Is(Field::Register(Register::State)),
+        23 => Found::Is(Field::Nesting),
         _ => Found::Nothing,
     }
 }
@@ -104,6 +112,7 @@ fn kind_of(field: Field) -> Kind
         Field::Origin(_) => Kind::Signed,
         Field::Corner(_) => Kind::Signed,
         Field::Register(register) => kind_of_register(register),
+        Field::Nesting => Kind::Unsigned,
     }
 }
 

@@ -11,6 +11,7 @@ use crate::field::Bound;
 use crate::field::Corner;
 use crate::field::Field;
 use crate::field::Found;
+use crate::field::Part;
 use crate::field::Register;
 use crate::field::field_of;
 use crate::field::read_value;
@@ -21,11 +22,12 @@ use raster::frame::Bounds;
 use raster::frame::Window;
 use rules::environment::Env;
 use rules::environment::Registers;
+use rules::environment::Repeat;
 use text::number::Number;
 use text::number::signed;
 use text::number::unsigned;
 ghost use mathlib.Core.Path.{_≡_};
-ghost use Rattle.desk.specs.Sets.{withBound, withAxis, withCorner, withRegister, withField, setVariable, setReturn, setKnown, setNamed, setField};
+ghost use Rattle.desk.specs.Sets.{withBound, withAxis, withCorner, withRegister, withField, withPart, setVariable, setReturn, setRepeat, setKnown, setNamed, setField};
 ghost use Rattle.desk.specs.Rooms.{WithinRooms};
 
 pub fn set_field(desk: Desk, name: &[u8], value: &[u8]) -> Carried
@@ -41,6 +43,12 @@ pub fn set_field(desk: Desk, name: &[u8], value: &[u8]) -> Carried
     }
     if name[0] == b'S' {
         return set_return(desk, &name[1..], value);
+    }
+    if name[0] == b'B' {
+        return set_repeat(desk, Part::Start, &name[1..], value);
+    }
+    if name[0] == b'P' {
+        return set_repeat(desk, Part::Left, &name[1..], value);
     }
     set_named(desk, field_of(name), value)
 }
@@ -89,6 +97,42 @@ fn set_return(desk: Desk, number: &[u8], value: &[u8]) -> Carried
         }
         Number::Wrong(flaw) => wrong(desk, fault_of(flaw)),
     }
+}
+
+fn set_repeat(desk: Desk, part: Part, number: &[u8], value: &[u8]) -> Carried
+    requires { ⌜ WithinRooms desk ⌝ }
+    ensures { λ r. ⌜ r ≡ setRepeat desk part (now (number .entry)) (now (value .entry)) ⌝ }
+    ensures { λ r. ⌜ WithinRooms (r .desk) ⌝ }
+{
+    let Number::Is(i) = unsigned(number) else {
+        return wrong(desk, Fault::NoField);
+    };
+    if 7 < i {
+        return wrong(desk, Fault::NoField);
+    }
+    let read = unsigned(value);
+    match read {
+        Number::Is(n) => {
+            let mut env = desk.env;
+            let at = i as usize;
+            let repeat = env.repeats[at];
+            env.repeats[at] = with_part(repeat, part, n);
+            fine(with_env(desk, env))
+        }
+        Number::Wrong(flaw) => wrong(desk, fault_of(flaw)),
+    }
+}
+
+fn with_part(repeat: Repeat, part: Part, n: u32) -> Repeat
+    ensures { λ r. ⌜ r ≡ withPart part n repeat ⌝ }
+{
+    let mut after = repeat;
+    let index = WordIndex(n);
+    match part {
+        Part::Start => after.start = index,
+        Part::Left => after.left = n,
+    }
+    after
 }
 
 fn set_named(desk: Desk, found: Found, value: &[u8]) -> Carried
@@ -146,6 +190,7 @@ fn with_field(env: Env, field: Field, bits: u32) -> Env
             registers = with_register(registers, register, bits);
             after.registers = registers;
         }
+        Field::Nesting => after.nesting = bits,
     }
     after
 }

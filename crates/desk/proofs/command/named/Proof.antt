@@ -43,10 +43,14 @@ returns-7 c = at-place commands Unknown 6 (c .before .place-in .ensures) (c .mat
 
 returns-8 : tie.Need-returns-8
 unfolding named names
-returns-8 c =
+returns-8 c = at-place commands Unknown 7 (c .before .place-in .ensures) (c .match .keys8)
+
+returns-9 : tie.Need-returns-9
+unfolding named names
+returns-9 c =
     let r = c .match .rest in
     past commands Unknown (c .before .place-in .ensures)
-    (more 6 (more 5 (more 4 (more 3 (more 2 (more 1 (more 0 zero-le (r .0 .0 .0 .0 .0 .0 .1)) (r .0 .0 .0 .0 .0 .1)) (r .0 .0 .0 .0 .1)) (r .0 .0 .0 .1)) (r .0 .0 .1)) (r .0 .1)) (r .1))
+    (more 7 (more 6 (more 5 (more 4 (more 3 (more 2 (more 1 (more 0 zero-le (r .0 .0 .0 .0 .0 .0 .0 .1)) (r .0 .0 .0 .0 .0 .0 .1)) (r .0 .0 .0 .0 .0 .1)) (r .0 .0 .0 .0 .1)) (r .0 .0 .0 .1)) (r .0 .0 .1)) (r .0 .1)) (r .1))
 
 pub named-spec : {M : Type 1} → statement M
 named-spec =
@@ -61,4 +65,5 @@ named-spec =
     returns-5
     returns-6
     returns-7
-    returns-8)
+    returns-8
+    returns-9)

@@ -1,7 +1,7 @@
 -- Part by part.
 use mathlib.Core.Path.{_∙_}
 use mir.Facts.{toZ-ofZ}
-use Rattle.desk.proofs.Setting.{a-bound, a-coordinate, an-origin, a-corner, a-register}
+use Rattle.desk.proofs.Setting.{a-bound, a-coordinate, an-origin, a-corner, a-register, the-nesting}
 use borrow.Author.Needs.{needs}
 use Rattle.desk.proofs.set.with_field.Statement.{statement}
 use Rattle.desk.proofs.set.with_field.Tie as tie
@@ -45,6 +45,9 @@ enum-known-field-5 c = search needs
 with-register-requires : tie.Need-with-register-requires
 with-register-requires c κs = search needs
 
+enum-told : tie.Need-enum-told
+enum-told c = search needs
+
 returns : tie.Need-returns
 returns c = a-bound _ _ (c .before .before .field .given .1) (c .with-bound .ensures)
 
@@ -59,6 +62,9 @@ returns-4 c = let t = c .before in a-corner _ _ (t .before .before .field4 .give
 
 returns-5 : tie.Need-returns-5
 returns-5 c = a-register _ _ (c .before .before .field5 .given .1) (c .with-register .ensures)
+
+returns-6 : tie.Need-returns-6
+returns-6 c = the-nesting _ _ (c .enum-told .given .1)
 
 pub with-field-spec : {M : Type 1} → statement M
 with-field-spec =
@@ -77,8 +83,10 @@ with-field-spec =
     with-corner-requires
     enum-known-field-5
     with-register-requires
+    enum-told
     returns
     returns-2
     returns-3
     returns-4
-    returns-5)
+    returns-5
+    returns-6)
