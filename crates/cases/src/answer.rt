@@ -11,6 +11,7 @@ use raster::frame::Bounds;
 use raster::frame::Window;
 use rules::answer::Answer;
 use rules::environment::Registers;
+use rules::environment::Repeat;
 
 pub fn print_answer(answer: Answer) {
     count(b"answer ", answer.number as usize);
@@ -21,10 +22,12 @@ pub fn print_answer(answer: Answer) {
     let env = answer.env;
     let registers = env.registers;
     let stack = env.stack;
+    let repeats = env.repeats;
     let variables = env.variables;
     print_bounds(env.bounds);
     print_registers(registers);
     print_returns(stack, registers.depth as usize);
+    print_repeats(repeats, env.nesting as usize);
     print_variables(&variables);
 }
 
@@ -83,6 +86,27 @@ fn print_returns(stack: [WordIndex; 16], depth: usize) {
         i += 1;
     }
     end_line();
+}
+
+// The first `nesting` repeats, the outermost first: where the block begins, and the passes left.
+fn print_repeats(repeats: [Repeat; 8], nesting: usize) {
+    count(b"nesting ", nesting);
+    text(b" repeats");
+    let mut i = 0;
+    while i < repeats.len() {
+        if nesting <= i {
+            break;
+        }
+        print_repeat(repeats[i]);
+        i += 1;
+    }
+    end_line();
+}
+
+fn print_repeat(repeat: Repeat) {
+    let start = repeat.start;
+    unsigned(b" ", start.0);
+    unsigned(b" ", repeat.left);
 }
 
 // The variables that are not 0.

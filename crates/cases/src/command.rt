@@ -1,4 +1,5 @@
 // Carries out one line of the file.
+use crate::checked::check;
 use crate::fresh::fresh;
 use crate::lit_dots::lit;
 use crate::print;
@@ -46,6 +47,7 @@ pub fn carry_out(
         Command::List => list(line, desk, words),
         Command::Run => run(desk, words, screen),
         Command::Lit => lit(line, desk),
+        Command::Check => check(desk, words),
         Command::Unknown => wrong(desk, Fault::Unknown),
     }
 }

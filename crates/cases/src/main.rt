@@ -1,5 +1,6 @@
 // Runs a file of cases through the box and prints every answer whole. FORMAT.md has the file's format and the answer's layout.
 mod answer; // prints an answer
+mod checked; // checks the list
 mod command; // carries a line out
 mod fault; // says what is wrong with a line
 mod file; // goes through the file
