@@ -1,5 +1,5 @@
-// What the arguments ask for: a form of the picture, and behind it LIST WIDTH HEIGHT [LEFT TOP RIGHT BOTTOM] [BUDGET] or
-// page PAGE WIDTH HEIGHT [BUDGET].
+// What the arguments ask for: check LIST; or a form of the picture, and behind it LIST WIDTH HEIGHT [LEFT TOP RIGHT BOTTOM]
+// [BUDGET] or page PAGE WIDTH HEIGHT [BUDGET].
 use crate::number::is_number;
 use crate::number::number;
 use crate::say::no_number;
@@ -34,9 +34,11 @@ pub struct Given {
     pub budget: u32,
 }
 
+// A list or a page to play, or a list to check, whose name is that argument.
 pub enum Wish {
     List(Given),
     Page(Given),
+    Check(usize),
     Wrong,
 }
 
@@ -44,6 +46,9 @@ pub enum Wish {
 pub const BUDGET: u32 = 1_000_000;
 
 pub fn asked() -> Wish {
+    if is(1, b"check") {
+        return check_asked(2);
+    }
     if is(1, b"ppm") {
         return behind(2, Form::Ppm);
     }
@@ -88,6 +93,13 @@ fn behind(first: usize, form: Form) -> Wish
         return page_asked(first + 1, form);
     }
     list_asked(first, form)
+}
+
+fn check_asked(first: usize) -> Wish {
+    if from(first) == 1 {
+        return Wish::Check(first);
+    }
+    wrong()
 }
 
 fn page_asked(first: usize, form: Form) -> Wish

@@ -4,7 +4,7 @@ use mathlib.Core.Bool.{Bool, true, false, cond}
 use lib.Dec.{ltb}
 use Rattle.play.specs.declared.end.Ends.{Ends}
 use Rattle.play.specs.declared.end.End.{End}
-use Rattle.play.specs.declared.end.End.the-variants.{Picture, Nothing, Stopped}
+use Rattle.play.specs.declared.end.End.the-variants.{Done, Nothing, Stopped}
 
 abbrev pub ends : Bool → Bool → Ends
 ends shown stopped = record { shown = shown; stopped = stopped }
@@ -18,5 +18,5 @@ withNumber e n = cond (ltb n 2) (ends true (e .stopped)) (ends (e .shown) true)
 
 abbrev pub endOf : Bool → Bool → End
 endOf false stopped = Nothing
-endOf true false = Picture
+endOf true false = Done
 endOf true true = Stopped

@@ -2,9 +2,10 @@
 ghost use mathlib.Core.Path.{_≡_};
 ghost use Rattle.play.specs.Ends.{noneYet, withNumber, endOf};
 
-// There is a picture; there is none; the arguments are wrong; there is a picture, but a list was stopped.
+// There is a picture, or the list surely finishes; there is none, or it may not; the arguments are wrong; there is a picture, but a list
+// was stopped.
 pub enum End {
-    Picture,
+    Done,
     Nothing,
     Wrong,
     Stopped,
@@ -15,7 +16,7 @@ const DESCRIPTOR: i32 = 3;
 // Where nobody listens there, nothing is told.
 pub fn tell(end: End) {
     match end {
-        End::Picture => say(b"0\n"),
+        End::Done => say(b"0\n"),
         End::Nothing => say(b"1\n"),
         End::Wrong => say(b"2\n"),
         End::Stopped => say(b"3\n"),
@@ -67,6 +68,6 @@ pub fn end_of(ends: Ends) -> End
     if ends.stopped {
         End::Stopped
     } else {
-        End::Picture
+        End::Done
     }
 }

@@ -1,13 +1,15 @@
-// Plays lists on a screen of zeros: the picture goes to standard output, a line for each list to standard error, and how it
-// ended to descriptor 3.
+// Plays lists on a screen of zeros, or checks one: the picture, or how many steps a list takes, goes to standard output, a line
+// for each list that is played or refused to standard error, and how it ended to descriptor 3.
+mod check; // whether a list surely finishes
 mod digits; // numbers on standard error
 mod end; // how it ended
 mod output; // writes the picture
 mod page; // the lists of a page
-mod place; // where a list was stopped
+mod place; // where a list was stopped or is refused
 mod report; // a line for each list
 mod slices; // runs the lists of a page in turn
 
+use check::check_list;
 use end::End;
 use end::end_of;
 use end::tell;
@@ -46,6 +48,7 @@ fn play(words: &mut [u16; WORDS]) -> End {
     match form {
         Wish::List(given) => play_list(given, words),
         Wish::Page(given) => play_page(given, words),
+        Wish::Check(at) => check_list(at, words),
         Wish::Wrong => End::Wrong,
     }
 }

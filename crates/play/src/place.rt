@@ -1,8 +1,10 @@
-// Where a list was stopped, for whoever has to mend it: the word, the opcode by its name and, with 23, the variables.
+// Where a list was stopped or is refused by the checker, for whoever has to mend it: the word, the opcode by its name and, with
+// 23, the variables.
 use crate::digits::decimal;
 use crate::digits::hexadecimal;
 use crate::digits::index;
 use crate::report::say_words;
+use crate::report::tell;
 use errand::say::say;
 use forms::form_of;
 use names::name_of;
@@ -20,6 +22,35 @@ pub fn tell_place(list: &[u16], number: u8, opcode: WordIndex, place: WordIndex)
         _ => {
             say(b": ");
             tell_opcode(list, opcode);
+        }
+    }
+}
+
+// The line of a list that the checker refuses: the number, what it means, and the place, which 13 and 31 do not have.
+pub fn tell_fault(name: &[u8], list: &[u16], number: u8, place: WordIndex) {
+    match number {
+        13 | 31 => tell(name, number),
+        21 => tell_foreign(name, list, place),
+        _ => {
+            tell(name, number);
+            tell_place(list, number, place, place);
+        }
+    }
+    say(b"\n");
+}
+
+// A word that is no opcode; or an opcode that no list has which surely finishes.
+fn tell_foreign(name: &[u8], list: &[u16], place: WordIndex) {
+    let form = form_at(list, place);
+    match form {
+        Form::Unknown => {
+            tell(name, 21);
+            tell_word(list, place);
+        }
+        _ => {
+            say(name);
+            say(b": 21, foreign to lists that surely finish: ");
+            tell_opcode(list, place);
         }
     }
 }

@@ -58,7 +58,7 @@ fn line(name: &[u8], list: &[u16], playing: Playing) {
 }
 
 // NAME: NUMBER, what it means.
-fn tell(name: &[u8], number: u8) {
+pub fn tell(name: &[u8], number: u8) {
     say(name);
     say(b": ");
     decimal(number as u32);
