@@ -96,11 +96,14 @@ abbrev pub windowed : Window → Registers → Registers
 windowed w r = registers r.position r.origin w r.mode r.pattern r.first r.second r.counter r.depth r.place r.colour r.state
 
 -- ---- one field of the environment
+abbrev env : Bounds → Registers → List ℕ → List WordIndex → ℕ → List Repeat → Env
+env b r vs is n rs = record { bounds = b; registers = r; variables = vs; stack = is; nesting = n; repeats = rs }
+
 abbrev pub bounded : Bounds → Env → Env
-bounded b e = record { bounds = b; registers = e.registers; variables = e.variables; stack = e.stack; nesting = e.nesting; repeats = e.repeats }
+bounded b e = env b e.registers e.variables e.stack e.nesting e.repeats
 
 abbrev pub registered : Registers → Env → Env
-registered r e = record { bounds = e.bounds; registers = r; variables = e.variables; stack = e.stack; nesting = e.nesting; repeats = e.repeats }
+registered r e = env e.bounds r e.variables e.stack e.nesting e.repeats
 
 abbrev pub withField : Field → ℕ → Env → Env
 withField (Field.Bound b) n e = bounded (withBound b n e.bounds) e
@@ -108,20 +111,20 @@ withField (Field.Position a) n e = registered (positioned (withAxis a (signed32 
 withField (Field.Origin a) n e = registered (based (withAxis a (signed32 n) (e .registers .origin)) e.registers) e
 withField (Field.Corner c) n e = registered (windowed (withCorner c (signed32 n) (e .registers .window)) e.registers) e
 withField (Field.Register r) n e = registered (withRegister r n e.registers) e
-withField Field.Nesting n e = record { bounds = e.bounds; registers = e.registers; variables = e.variables; stack = e.stack; nesting = n; repeats = e.repeats }
+withField Field.Nesting n e = env e.bounds e.registers e.variables e.stack n e.repeats
 
 abbrev pub withVariable : ℕ → ℕ → Env → Env
-withVariable i n e = record { bounds = e.bounds; registers = e.registers; variables = set e.variables i n; stack = e.stack; nesting = e.nesting; repeats = e.repeats }
+withVariable i n e = env e.bounds e.registers (set e.variables i n) e.stack e.nesting e.repeats
 
 abbrev pub withReturn : ℕ → ℕ → Env → Env
-withReturn i n e = record { bounds = e.bounds; registers = e.registers; variables = e.variables; stack = set e.stack i (record { 0 = n }); nesting = e.nesting; repeats = e.repeats }
+withReturn i n e = env e.bounds e.registers e.variables (set e.stack i (record { 0 = n })) e.nesting e.repeats
 
 -- where a list of repeats has none
 abbrev pub none : Repeat
 none = record { start = record { 0 = 0 }; left = 0 }
 
 abbrev pub withRepeats : List Repeat → Env → Env
-withRepeats rs e = record { bounds = e.bounds; registers = e.registers; variables = e.variables; stack = e.stack; nesting = e.nesting; repeats = rs }
+withRepeats rs e = env e.bounds e.registers e.variables e.stack e.nesting rs
 
 abbrev pub withRepeat : Part → ℕ → ℕ → Env → Env
 withRepeat p i n e = withRepeats (set e.repeats i (withPart p n (getD e.repeats i none))) e
