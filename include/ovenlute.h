@@ -134,8 +134,8 @@ struct ovenlute_words {
    calls but what is lent. Lists that share a screen take turns. None allocates, and none needs more than 2 KiB of stack. */
 
 /* A fresh environment for a screen of that size and a pane in it: variables 0, position (0, 0), origin (0, 0), colour 15, clip
-   mode 0, window the whole screen, pattern all ones, counter 0, no repeat open, running. Numbers: 0; 10 for a bad size; 12 for a bad pane, size
-   first. With 10 and 12 env is all zeros, the pattern too, and a run over it answers 10. */
+   mode 0, window the whole screen, pattern all ones, counter 0, no repeat open, running. Numbers: 0; 10 for a bad size; 12 for a
+   bad pane, size first. With 10 and 12 env is all zeros, the pattern too, and a run over it answers 10. */
 struct ovenlute_made ovenlute_fresh(uint32_t width, uint32_t height, struct ovenlute_pane pane);
 
 /* Runs a list of 16-bit words on a screen of one byte a pixel, row by row from the top left, with the environment changed in
@@ -161,7 +161,8 @@ struct ovenlute_done ovenlute_run(const uint16_t *list, size_t words, uint8_t *s
      one that is foreign to such lists: a jump, a call, RTRN; 22 the list ends inside the opcode; 24 a count that is not 1 to 1,000;
      28 a ninth block inside eight; 29 an ERPT outside all blocks; 30 an EODL inside a block. 31, with place 0, where all is sound
      but more than 1,000,000 steps are needed.
-   - 20, 22, 24, 28 and 29 are what a run from a fresh environment answers there, unless one of 23 to 26 stops it sooner. */
+   - 20, 22, 24, 28 and 29 are what a run from a fresh environment answers there, unless one of 23 to 26 stops it sooner.
+   With length 0 the list may be NULL. */
 struct ovenlute_checked ovenlute_check(const uint16_t *list, size_t words);
 
 /* How many dots of a dashed line light up, clipping aside, from its length in dots and its pattern alone: whole runs of 32 dots
