@@ -156,7 +156,7 @@ struct ovenlute_done ovenlute_run(const uint16_t *list, size_t words, uint8_t *s
    RPT and ERPT, at most eight in one another, each repeated 1 to 1,000 times, and whose EODL stands outside all blocks. Nothing is
    played and no environment is asked for. Words behind the EODL are not read.
    - 0: a run of the list from a fresh environment with a budget of `steps`, if it is not refused with 10 to 12, ends with 0 in
-     exactly that many steps, or is stopped in fewer with one of 23 to 26, which depend on what variables hold.
+     exactly that many steps, or is stopped in fewer with one of 23 to 26, which a check does not look at.
    - Else the first fault in the list's order, with its place, and steps 0: 13; 20 the list ends without an EODL; 21 no opcode, or
      one that is foreign to such lists: a jump, a call, RTRN; 22 the list ends inside the opcode; 24 a count that is not 1 to 1,000;
      28 a ninth block inside eight; 29 an ERPT outside all blocks; 30 an EODL inside a block. 31, with place 0, where all is sound
