@@ -6,7 +6,7 @@ use lib.Dec.{leb}
 pub use Rattle.player.proofs.Doors.{one, other}
 use Rattle.rules.specs.Types.{Bounds}
 use Rattle.rules.specs.Environment.{Pen, Flow, Env}
-use Rattle.rules.specs.Door.{paneFits, dotFits, windowFits, stackFits, repeatsFit, indexFits, repeatFits, every, stateFits, penFits, flowFits, fits}
+use Rattle.rules.specs.Door.{paneFits, dotFits, windowFits, stackFits, indexFits, repeatFits, every, stateFits, penFits, flowFits, fits}
 
 -- ---- tests
 pub both : (a b : Bool) → a ≡ true → b ≡ true → (a && b) ≡ true

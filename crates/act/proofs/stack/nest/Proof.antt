@@ -1,6 +1,5 @@
 -- `nest`: two numbers are the repeat, and the count says how many are open.
 use mathlib.Core.Path.{refl}
-use native.Mathlib.Omega.{arith}
 use borrow.Author.Needs.{needs}
 use Rattle.act.proofs.StackLaws.{repeat-set}
 use Rattle.act.proofs.stack.nest.Statement.{statement}

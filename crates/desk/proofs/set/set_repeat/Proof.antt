@@ -1,6 +1,6 @@
 -- By the number behind the letter, and the value; the repeat's other part stays.
 use Prim.Native.Nat.{ℕ}
-use mathlib.Core.Path.{refl, sym, _∙_}
+use mathlib.Core.Path.{sym, _∙_}
 use Rattle.rules.specs.declared.environment.Env.{Env}
 use Rattle.desk.specs.Sets.{withRepeat}
 use Rattle.desk.proofs.Setting.{a-part, a-value, no-value, no-number, past-last, in-range}
