@@ -16,6 +16,7 @@ use Rattle.raster.specs.declared.frame.Window.{Window}
 use Rattle.rules.specs.declared.environment.Env.{Env}
 use Rattle.rules.specs.declared.environment.Registers.{Registers}
 use Rattle.rules.specs.declared.environment.Repeat.{Repeat}
+use Rattle.rules.specs.Environment.{over}
 use Rattle.text.specs.declared.number.Number.{Number}
 use Rattle.text.specs.declared.number.Number.the-variants as Number
 use Rattle.text.specs.declared.number.Flaw.{Flaw}
@@ -34,7 +35,7 @@ use Rattle.desk.specs.declared.field.Part.the-variants.{Start, Left}
 use Rattle.desk.specs.Desks.{fine, wrong, withEnv}
 use Rattle.desk.specs.Faults.{faultOf}
 use Rattle.desk.specs.Fields.{fieldOf}
-use Rattle.desk.specs.Sets.{withBound, withAxis, withCorner, withRegister, withPart, positioned, based, windowed, bounded, registered, withField, none, withRepeats, withRepeat, stored, numbered, setVariable, setReturn, setRepeat, setNamed, setField}
+use Rattle.desk.specs.Sets.{withBound, withAxis, withCorner, withRegister, withPart, positioned, based, windowed, bounded, registered, withField, withRepeats, withRepeat, stored, numbered, setVariable, setReturn, setRepeat, setNamed, setField}
 
 -- ---- a part with one number set, where the match has told which
 pub bound-is : {x : Bound} (y : Bound) (n : ℕ) (b : Bounds) → x ≡ y → withBound y n b ≡ withBound x n b
@@ -81,7 +82,7 @@ module _ (n : ℕ) (e : Env) {field : Field} where
   pub the-nesting : field ≡ Field.Nesting → withField Field.Nesting n e ≡ withField field n e
   the-nesting p = ap (λ (f : Field). withField f n e) (sym p)
 
-pub a-part : (p : Part) {r : Repeat} (i n : ℕ) (e : Env) → r ≡ withPart p n (getD (e .repeats) i none) → withRepeats (set (e .repeats) i r) e ≡ withRepeat p i n e
+pub a-part : (p : Part) {r : Repeat} (i n : ℕ) (e : Env) → r ≡ withPart p n (getD (e .repeats) i over) → withRepeats (set (e .repeats) i r) e ≡ withRepeat p i n e
 a-part p i n e h = ap (λ (r : Repeat). withRepeats (set (e .repeats) i r) e) h
 
 -- ---- what the line leaves

@@ -14,6 +14,7 @@ use Rattle.raster.specs.declared.frame.Window.{Window}
 use Rattle.rules.specs.declared.environment.Env.{Env}
 use Rattle.rules.specs.declared.environment.Registers.{Registers}
 use Rattle.rules.specs.declared.environment.Repeat.{Repeat}
+use Rattle.rules.specs.Environment.{over}
 use Rattle.text.specs.Number.{decimalOf, signedOf}
 use Rattle.text.specs.declared.number.Number.{Number}
 use Rattle.text.specs.declared.number.Number.the-variants as Number
@@ -119,15 +120,11 @@ withVariable i n e = env e.bounds e.registers (set e.variables i n) e.stack e.ne
 abbrev pub withReturn : ℕ → ℕ → Env → Env
 withReturn i n e = env e.bounds e.registers e.variables (set e.stack i (record { 0 = n })) e.nesting e.repeats
 
--- where a list of repeats has none
-abbrev pub none : Repeat
-none = record { start = record { 0 = 0 }; left = 0 }
-
 abbrev pub withRepeats : List Repeat → Env → Env
 withRepeats rs e = env e.bounds e.registers e.variables e.stack e.nesting rs
 
 abbrev pub withRepeat : Part → ℕ → ℕ → Env → Env
-withRepeat p i n e = withRepeats (set e.repeats i (withPart p n (getD e.repeats i none))) e
+withRepeat p i n e = withRepeats (set e.repeats i (withPart p n (getD e.repeats i over))) e
 
 -- ---- what the line leaves
 abbrev pub stored : Desk → (ℕ → Env) → Number → Carried
