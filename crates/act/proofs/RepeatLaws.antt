@@ -34,7 +34,7 @@ many k h = ap (λ (t : Bool). leb 1 k && t) (lt-leb k 1000 h) ∙ and-false (leb
 pub some : (k : ℕ) → (k ≡ 0 → ⊥) → k ≤ 1000 → countable k ≡ true
 some k h l = let least : 1 ≤ k = omega (arith, h) in rw (le-leb 1 k least, le-leb k 1000 l)
 
--- ---- n is the operand's place in the rule, d how many repeats are open
+-- ---- the rules of RPT and ERPT in a list of n words; d is how many repeats are open
 module _ (o : Operands) (n : ℕ) (next : WordIndex) {cs st : List ℕ} (pre : Stacked cs st) where
   pub open-24 : countable (o .a) ≡ false → {u : Upshot} {cs' : List ℕ} → HaltsHere 24 u cs cs' → Stacks u (does (rule Op.Repeat o n) next) cs cs' st st
   open-24 c h =
