@@ -20,7 +20,7 @@ use Rattle.player.specs.Obeys.{Obeys}
 use Rattle.player.specs.Drawing.{Inside, Draws}
 
 -- ---- one painting
-length-painted : (p : Painting) (s : List ℕ) → length (painted p s) ≡ length s
+pub length-painted : (p : Painting) (s : List ℕ) → length (painted p s) ≡ length s
 length-painted p s = length-paint (p .frame) (p .shape) (p .colour) s
 
 -- a byte that it hits is in its pane

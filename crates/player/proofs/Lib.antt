@@ -13,5 +13,6 @@ pub mod Steady
 pub mod Slices
 pub mod InTurns
 pub mod Turning
+pub mod Writings
 pub mod Toys
 pub mod Strays

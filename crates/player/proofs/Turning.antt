@@ -22,10 +22,10 @@ use Rattle.player.specs.Player.{Outcome, done, refused, Player, Stops}
 use Rattle.player.specs.Run.{Answer, answer, by-state, by-opcode, runs}
 use Rattle.player.specs.Shown.{Marks, marks, unmarked, marked, went, halted, shown, brushed, seen, verdictOf}
 
-one-less : (b k : ℕ) → k < b → b - k ≡ suc (b - (k + 1))
+pub one-less : (b k : ℕ) → k < b → b - k ≡ suc (b - (k + 1))
 one-less b k h = omega arith
 
-none-left : (b k : ℕ) → b ≤ k → b - k ≡ 0
+pub none-left : (b k : ℕ) → b ≤ k → b - k ≡ 0
 none-left b k h = omega arith
 
 -- ---- the screen with the dots that were painted

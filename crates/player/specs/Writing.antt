@@ -29,3 +29,8 @@ or-else (step k o) earlier = step k o
 unfoldable pub writer : {E : Type 0} → ℕ → List (Done E) → Dot → Writer E
 writer k [] d = nobody
 writer k (o ∷ os) d = or-else (writer (suc k) os d) (own k o d)
+
+-- what is told of it, by the number of the step, the environment that it began with and the colour that it painted; of nobody, a
+abbrev pub told : {E A : Type 0} → (ℕ → E → ℕ → A) → A → Writer E → A
+told tell a nobody = a
+told tell a (step k o) = tell k (o .from) (o .painting .colour)
