@@ -11,7 +11,7 @@ use lib.IntN.{ℤ, pos}
 use borrow.Author.Tests.{leb-true, ltb-true, le-leb}
 use Rattle.numbers.specs.Coordinate.{inWord}
 use Rattle.numbers.proofs.Coordinates.{within-mag}
-use Rattle.raster.specs.Frame.{Word, Sound, Fitting}
+use Rattle.raster.specs.Frame.{Word, Sound, Sane, Fitting}
 use Rattle.player.specs.Hosted.{Request}
 use Rattle.player.specs.Run.{runs}
 use Rattle.player.proofs.Runs.{invariant}
@@ -62,10 +62,13 @@ words w h =
     let q = logical (record { x = w .x1; y = w .y1 }) (other (inWord (w .x0) && inWord (w .y0)) _ h) in
     (p .0, p .1, q .0, q .1)
 
-pub fitting : (e : Env) (s : List ℕ) → sizeFits (e .bounds) ≡ true → fits e ≡ true → length s ≡ e .bounds .width * e .bounds .height → Fitting (frame e) s
-fitting e s size h area =
+pub sane : (e : Env) → sizeFits (e .bounds) ≡ true → fits e ≡ true → Sane (frame e)
+sane e size h =
     let f = parted e h in
-    record { sane = record { bounds = sound (e .bounds) size (f .0); origin = logical (e .pen .origin) (f .1 .origin); window = words (e .pen .window) (f .1 .window) }; bytes = area ∙ mul-comm (e .bounds .width) (e .bounds .height) }
+    record { bounds = sound (e .bounds) size (f .0); origin = logical (e .pen .origin) (f .1 .origin); window = words (e .pen .window) (f .1 .window) }
+
+pub fitting : (e : Env) (s : List ℕ) → sizeFits (e .bounds) ≡ true → fits e ≡ true → length s ≡ e .bounds .width * e .bounds .height → Fitting (frame e) s
+fitting e s size h area = record { sane = sane e size h; bytes = area ∙ mul-comm (e .bounds .width) (e .bounds .height) }
 
 -- ---- what a run leaves
 module _ (w : List ℕ) (few : length w ≤ 65536) where
