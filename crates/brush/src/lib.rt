@@ -97,7 +97,7 @@ pub fn hold_circle(brush: &mut Brush, k: Circle, filled: bool, c: u8)
 }
 
 // The first point, moved to the origin.
-fn one(brush: &Brush, origin: Dot) -> Spot
+pub fn one(brush: &Brush, origin: Dot) -> Spot
     requires { ⌜ WordB (Held.one (now brush)) × Word (origin .x) × Word (origin .y) ⌝ }
     ensures { λ r. ⌜ r ≡ shiftedB (Held.one (now (brush .entry))) origin ⌝ }
 {
@@ -109,7 +109,7 @@ fn one(brush: &Brush, origin: Dot) -> Spot
 }
 
 // The other one, moved too.
-fn other(brush: &Brush, origin: Dot) -> Spot
+pub fn other(brush: &Brush, origin: Dot) -> Spot
     requires { ⌜ WordB (Held.other (now brush)) × Word (origin .x) × Word (origin .y) ⌝ }
     ensures { λ r. ⌜ r ≡ shiftedB (Held.other (now (brush .entry))) origin ⌝ }
 {

@@ -15,14 +15,14 @@ ghost use Rattle.lines.specs.Courses.{numberB, Fair};
 ghost use Rattle.lines.specs.Walks.{stretchB, AllSeen, Reached};
 
 // The pattern paints the dot with this number: bit 0 is the lowest, and after bit 31 comes bit 0 again.
-fn lit(pattern: u32, number: u32) -> bool
+pub fn lit(pattern: u32, number: u32) -> bool
     ensures { λ r. ⌜ r ≡ Dashes.lit pattern number ⌝ }
 {
     (pattern >> (number % 32)) % 2 == 1
 }
 
 // Dot k's number, counted from the first point given.
-fn number_of(l: Course, k: u32) -> u32
+pub fn number_of(l: Course, k: u32) -> u32
     requires { ⌜ k ≤ l .n ⌝ }
     ensures { λ r. ⌜ r ≡ numberB l k ⌝ }
 {
