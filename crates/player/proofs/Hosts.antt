@@ -44,7 +44,7 @@ module _ {E : Type 0} (bounds : E → Bounds) (P : Player E) (K : Keeps bounds P
   inside-turn Running (refused v) e more h f = tt
   inside-turn Running (done e' p) e more h f = (h .0, rw (h .1) at (f e'))
 
-  trace-inside : (left : ℕ) (e : E) → Inside (bounds e) (paintings (trace P left e))
+  pub trace-inside : (left : ℕ) (e : E) → Inside (bounds e) (paintings (trace P left e))
   unfolding trace
   trace-inside zero e = tt
   trace-inside (suc left) e = inside-turn (P .state e) (P .step e) e (λ e'. trace P left e') (K .steps e) (λ e'. trace-inside left e')

@@ -14,5 +14,6 @@ pub mod Slices
 pub mod InTurns
 pub mod Turning
 pub mod Writings
+pub mod Tints
 pub mod Toys
 pub mod Strays

@@ -29,7 +29,7 @@ pub none-left : (b k : ℕ) → b ≤ k → b - k ≡ 0
 none-left b k h = omega arith
 
 -- ---- the screen with the dots that were painted
-marked-is : (p : Painting) (s : List ℕ) → marked (marks p) s ≡ painted p s
+pub marked-is : (p : Painting) (s : List ℕ) → marked (marks p) s ≡ painted p s
 unfolding paint
 marked-is p s = refl
 
