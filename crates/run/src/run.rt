@@ -20,7 +20,7 @@ ghost use Rattle.player.specs.Shown.{verdictOf};
 ghost use Rattle.rules.specs.Door.{Promise};
 
 // What the state that is left answers; of one that still runs, that the budget is used up.
-fn verdict_of(s: State) -> Verdict
+pub fn verdict_of(s: State) -> Verdict
     ensures { λ v. ⌜ v ≡ verdictOf s ⌝ }
 {
     match s {
@@ -31,7 +31,7 @@ fn verdict_of(s: State) -> Verdict
 }
 
 // Refused at the door: all is as it was.
-fn refused(number: u8, env: Env) -> Answer
+pub fn refused(number: u8, env: Env) -> Answer
     ensures { λ a. ⌜ a ≡ record { number = number; place = record { 0 = 0 }; env = env; steps = 0 } ⌝ }
 {
     Answer {
