@@ -26,7 +26,7 @@ use Rattle.player.specs.Writing.{writes, Writer, nobody, step, or-else, 
 use Rattle.player.specs.Tinted.{inColour, outcomeIn, tinted}
 use Rattle.player.proofs.Runs.{is-traced}
 use Rattle.player.proofs.Hosts.{trace-inside}
-use Rattle.player.proofs.Turning.{Turned, marked-is, painting, not-carried-out}
+use Rattle.player.proofs.Turning.{Turned, marked-is, painting, quiet, not-carried-out}
 use Rattle.player.proofs.Writings.{shownAt, coloured}
 
 -- ---- what is seen of an opcode: the same, its dots in another colour
@@ -68,7 +68,7 @@ module _ {E : Type 0} (tint : E → ℕ) (P : Player E) where
         record {
           dots = record { bounds = frame e₁ .bounds; dots = λ i j. false; colour = tint e };
           screen = x ∙ none (λ k. false) (tint e) s (λ k l t. t);
-          shows = as-seen e (rw is at as-shown);
+          shows = as-seen e (quiet P frame e s e₁ p as-shown is);
         }
 
     pub tinted-refused : u ≡ Refused → halted e₁ ≡ shown (Q .stop) (Q .step e) e

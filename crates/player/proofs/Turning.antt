@@ -60,8 +60,11 @@ module _ {E : Type 0} (P : Player E) where
         }
 
     -- nothing is
+    pub quiet : u ≡ Quiet → went e₁ (unmarked (frame e₁ .bounds)) ≡ shown (P .stop) (P .step e) e
+    quiet is = rw is at as-shown
+
     pub turned-quiet : u ≡ Quiet → {s₁ : List ℕ} → s₁ ≡ s → Turned e s e₁ s₁
-    turned-quiet is x = let b = frame e₁ .bounds in record { dots = unmarked b; screen = x ∙ unmarked-is b s; shows = rw is at as-shown }
+    turned-quiet is x = let b = frame e₁ .bounds in record { dots = unmarked b; screen = x ∙ unmarked-is b s; shows = quiet is }
 
     -- it is refused
     pub not-carried-out : u ≡ Refused → halted e₁ ≡ shown (P .stop) (P .step e) e
