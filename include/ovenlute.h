@@ -11,7 +11,7 @@ extern "C" {
 #endif
 
 /* Raised with every change of a struct below. An environment that was kept from another version is to be made anew. */
-#define OVENLUTE_VERSION 5
+#define OVENLUTE_VERSION 6
 
 /* The limits. */
 #define OVENLUTE_MOST_WORDS 65536     /* of a list */
@@ -25,9 +25,9 @@ extern "C" {
 
 /* The numbers that come back; each comment is what ovenlute_text says of it. 10 to 14 are of a call: nothing is done, and
    environment and screen are as they were. 20 to 29 are of an opcode: it was not carried out and changed nothing, those before
-   it stand, and the environment is stopped for good: it answers this number again, with its place. Only ovenlute_lit's 25 is of
-   its call and of no opcode, and ovenlute_check, which carries nothing out, tells 20 to 29 of what it reads. 30 and 31 are
-   ovenlute_check's alone. */
+   it stand, and the environment is stopped for good: it answers this number again, with its place. Only the 25 of ovenlute_lit and
+   of ovenlute_who is of its call and of no opcode, and ovenlute_check, which carries nothing out, tells 20 to 29 of what it reads.
+   30 and 31 are ovenlute_check's alone. */
 enum ovenlute_number {
     OVENLUTE_ENDED = 0,          /* the list has ended */
     OVENLUTE_BUDGET = 1,         /* the budget is used up, the list still runs */
@@ -41,7 +41,7 @@ enum ovenlute_number {
     OVENLUTE_CUT = 22,           /* the list ends inside the opcode */
     OVENLUTE_NO_VARIABLE = 23,   /* a variable above 63 */
     OVENLUTE_NOT_ALLOWED = 24,   /* a mode, type, condition or count that is not allowed */
-    OVENLUTE_OUT_OF_RANGE = 25,  /* a coordinate or offset not -32,768 to 32,767, a radius not 0 to 32,767, a length above 65,536 */
+    OVENLUTE_OUT_OF_RANGE = 25,  /* a coordinate or offset not -32,768 to 32,767, a radius not 0 to 32,767, a length above 65,536, a dot outside the screen */
     OVENLUTE_ZERO_DIVISOR = 26,  /* the divisor is zero */
     OVENLUTE_BAD_TARGET = 27,    /* a target that is not allowed */
     OVENLUTE_STACK_FULL = 28,    /* a call with 16 returns stacked, or a repeat with eight open */
@@ -64,7 +64,7 @@ struct ovenlute_bounds {
     struct ovenlute_pane pane;
 };
 
-/* Each -32,768 to 32,767. */
+/* Each -32,768 to 32,767; ovenlute_who takes any. */
 struct ovenlute_dot {
     int32_t x, y;
 };
@@ -120,6 +120,13 @@ struct ovenlute_checked {
     uint32_t steps;         /* 0: the opcodes that a run carries out, its EODL among them, 1 to 1,000,000; else 0 */
 };
 
+struct ovenlute_writer {
+    uint8_t number;
+    uint8_t colour;         /* that the step painted; 0 where no step did */
+    uint32_t step;          /* the step that last wrote the dot, counted from 1; 0: no step did */
+    uint32_t opcode;        /* the word index of its opcode; 0 where no step did */
+};
+
 struct ovenlute_lit_dots {
     uint8_t number;
     uint32_t count;         /* how many dots light up */
@@ -127,10 +134,10 @@ struct ovenlute_lit_dots {
 
 struct ovenlute_words {
     uint8_t length;
-    char text[95];          /* the words and zeros behind them, at least one: a C string */
+    char text[127];         /* the words and zeros behind them, at least one: a C string */
 };
 
-/* Any of the five may be called from several threads at once on different environments and screens: nothing is kept between
+/* Any of the six may be called from several threads at once on different environments and screens: nothing is kept between
    calls but what is lent. Lists that share a screen take turns. None allocates, and none needs more than 2 KiB of stack. */
 
 /* A fresh environment for a screen of that size and a pane in it: variables 0, position (0, 0), origin (0, 0), colour 15, clip
@@ -164,6 +171,21 @@ struct ovenlute_done ovenlute_run(const uint16_t *list, size_t words, uint8_t *s
    - 20, 22, 24, 28 and 29 are what a run from a fresh environment answers there, unless one of 23 to 26 stops it sooner.
    With length 0 the list may be NULL. */
 struct ovenlute_checked ovenlute_check(const uint16_t *list, size_t words);
+
+/* Who painted this dot: which step of a run last wrote it, counted from 1, with the word index of its opcode and the colour that it
+   painted. It is the very run that ovenlute_run makes with the same list, environment and budget, and no screen is asked for: the
+   environment is given by value, and nothing is changed. Numbers: 0; 10, 12, 13 and 14 as of a run; then 25 for a dot that is
+   outside the screen; never 11. With any of these but 0 all else is 0.
+   - A step counts where the dot is one of those that it painted, also where the dot had that colour already. What is outside the
+     pane or the clip window is not painted. A refused opcode wrote nothing; those before it did.
+   - Step 0: no step wrote it, and colour and opcode are 0. It is so with an environment that has ended or was stopped, and with
+     budget 0: nothing is carried out.
+   - Where a step is named, the dot's byte after that run is its colour, whatever the screen was before; where none is, the byte is
+     as it was.
+   A question takes as long as the run's opcodes without their painting, and a little for each: a line of 65,536 dots or a clearing
+   of the whole screen costs as much as a dot. With length 0 the list may be NULL. */
+struct ovenlute_writer ovenlute_who(const uint16_t *list, size_t words, struct ovenlute_env env, uint32_t budget,
+                                    struct ovenlute_dot dot);
 
 /* How many dots of a dashed line light up, clipping aside, from its length in dots and its pattern alone: whole runs of 32 dots
    times the ones in the pattern, plus the ones among the leftover low bits. Numbers: 0; 25 for a length above 65,536, with count 0.

@@ -63,12 +63,18 @@ _Static_assert(offsetof(struct ovenlute_checked, number) == 0, "checked.number")
 _Static_assert(offsetof(struct ovenlute_checked, place) == 4, "checked.place");
 _Static_assert(offsetof(struct ovenlute_checked, steps) == 8, "checked.steps");
 
+_Static_assert(sizeof(struct ovenlute_writer) == 12, "writer");
+_Static_assert(offsetof(struct ovenlute_writer, number) == 0, "writer.number");
+_Static_assert(offsetof(struct ovenlute_writer, colour) == 1, "writer.colour");
+_Static_assert(offsetof(struct ovenlute_writer, step) == 4, "writer.step");
+_Static_assert(offsetof(struct ovenlute_writer, opcode) == 8, "writer.opcode");
+
 _Static_assert(sizeof(struct ovenlute_lit_dots) == 8, "lit_dots");
 _Static_assert(offsetof(struct ovenlute_lit_dots, number) == 0, "lit_dots.number");
 _Static_assert(offsetof(struct ovenlute_lit_dots, count) == 4, "lit_dots.count");
 
-_Static_assert(sizeof(struct ovenlute_words) == 96, "words");
+_Static_assert(sizeof(struct ovenlute_words) == 128, "words");
 _Static_assert(offsetof(struct ovenlute_words, length) == 0, "words.length");
 _Static_assert(offsetof(struct ovenlute_words, text) == 1, "words.text");
 
-_Static_assert(OVENLUTE_VERSION == 5, "the version that these sizes and offsets are of");
+_Static_assert(OVENLUTE_VERSION == 6, "the version that these sizes and offsets are of");
