@@ -6,6 +6,7 @@
 
 #include "afgis.h"
 #include "numbers.h"
+#include "record.h"
 
 /* What carrying out one opcode answers: this, or a number 20 to 29. */
 enum { DONE = 0 };
@@ -19,7 +20,9 @@ struct machine {
     size_t words;
     uint8_t *screen;
     struct afgis_env *env;
-    uint32_t misnamed;  /* with 23: how far behind the opcode word the operand word at fault is */
+    struct record *record;  /* or NULL, where nobody asks */
+    uint32_t step;          /* of the opcode that is carried out, counted from 1 */
+    uint32_t misnamed;      /* with 23: how far behind the opcode word the operand word at fault is */
 };
 
 static int is_between(int64_t value, int64_t low, int64_t high)
@@ -158,8 +161,14 @@ static int is_drawable(const struct afgis_env *env, int32_t x, int32_t y)
 /* A pixel, counted from the screen's own (0, 0). "Points elsewhere are skipped; that is no refusal." */
 static void paint_pixel(struct machine *m, int32_t x, int32_t y, uint8_t colour)
 {
-    if (is_drawable(m->env, x, y))
-        m->screen[(size_t)y * m->env->width + (size_t)x] = colour;
+    size_t pixel;
+
+    if (!is_drawable(m->env, x, y))
+        return;
+    pixel = (size_t)y * m->env->width + (size_t)x;
+    m->screen[pixel] = colour;
+    if (m->record != NULL)
+        m->record->steps[pixel] = m->step;
 }
 
 /* "Drawing coordinates are relative to the origin; the sum may leave the signed word and is then merely not drawable." */
@@ -1026,6 +1035,15 @@ static void stop(struct machine *m, int refusal)
     m->env->place = m->env->counter + (refusal == NO_VARIABLE ? m->misnamed : 0);
 }
 
+/* The opcode that is due, as the step of this number. */
+static int carry_out_next(struct machine *m, uint32_t step)
+{
+    m->step = step;
+    if (m->record != NULL)
+        m->record->opcodes[step] = m->env->counter;
+    return carry_out(m);
+}
+
 /* "Then, before each opcode, the budget." */
 static struct afgis_answer run_from_here(struct machine *m, uint32_t budget)
 {
@@ -1036,7 +1054,7 @@ static struct afgis_answer run_from_here(struct machine *m, uint32_t budget)
             answer.number = BUDGET_USED;
             return answer;
         }
-        int refusal = carry_out(m);
+        int refusal = carry_out_next(m, answer.steps + 1);
         if (refusal == DONE)
             answer.steps++;
         else
@@ -1047,13 +1065,19 @@ static struct afgis_answer run_from_here(struct machine *m, uint32_t budget)
     return answer;
 }
 
-struct afgis_answer afgis_run(const uint16_t *list, size_t words, uint8_t *screen, size_t bytes,
-                              struct afgis_env *env, uint32_t budget)
+struct afgis_answer run_recorded(const uint16_t *list, size_t words, uint8_t *screen, size_t bytes,
+                                 struct afgis_env *env, uint32_t budget, struct record *record)
 {
-    struct machine m = { list, words, screen, env, 0 };
+    struct machine m = { list, words, screen, env, record, 0, 0 };
     struct afgis_answer refused = { door(env, words, bytes, budget), 0, 0 };
 
     return refused.number != 0 ? refused : run_from_here(&m, budget);
+}
+
+struct afgis_answer afgis_run(const uint16_t *list, size_t words, uint8_t *screen, size_t bytes,
+                              struct afgis_env *env, uint32_t budget)
+{
+    return run_recorded(list, words, screen, bytes, env, budget, NULL);
 }
 
 /* ---- Lit dots, of 02's T-04 ---- */

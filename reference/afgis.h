@@ -49,6 +49,17 @@ struct afgis_lit_dots {
     uint32_t count;                     /* how many dots light up */
 };
 
+struct afgis_dot {
+    int32_t x, y;
+};
+
+struct afgis_writer {
+    int number;
+    uint8_t colour;                     /* that the step painted */
+    uint32_t step;                      /* the one that "last wrote that dot", "counted from 1"; 0 where "no step did", and all else is 0 */
+    uint32_t opcode;                    /* "its word index in the list" */
+};
+
 /* Makes a fresh environment: 0, or 10 or 12 and an environment of zeros. */
 int afgis_fresh(uint32_t width, uint32_t height, uint32_t left, uint32_t top, uint32_t right, uint32_t bottom,
                 struct afgis_env *env);
@@ -62,5 +73,9 @@ struct afgis_checked afgis_check(const uint16_t *list, size_t words);
 
 /* 02's T-04: how many dots of a dashed line light up, "from length in dots and pattern alone": 0 and the count, or 25 and 0. */
 struct afgis_lit_dots afgis_lit(uint32_t length, uint32_t pattern);
+
+/* 02's T-08: who painted each of some dots, in one run: 0 and the step, or 10, 12, 13, 14 or 25 and zeros. */
+void afgis_who(const uint16_t *list, size_t words, const struct afgis_env *env, uint32_t budget, const struct afgis_dot *dots,
+               size_t count, struct afgis_writer *writers);
 
 #endif
