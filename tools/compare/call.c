@@ -12,4 +12,5 @@ void copy_call(struct call *to, const struct call *from)
     to->budget = from->budget;
     to->expected = from->expected;
     to->expected_check = from->expected_check;
+    memcpy(to->dots, from->dots, sizeof to->dots);
 }

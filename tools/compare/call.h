@@ -10,8 +10,12 @@ enum { MOST_WORDS = 65536, MOST_STEPS = 1000000, MOST_SIDE = 2048 };
 /* Room for lists and screens somewhat longer than any that is allowed. */
 enum { LIST_ROOM = MOST_WORDS + 64, SCREEN_ROOM = MOST_SIDE * MOST_SIDE + 4 * MOST_SIDE };
 
+/* Of how many dots of each call it is asked who painted them. */
+enum { DOTS_ASKED = 3 };
+
 /* Whatever is counted belongs to one of these groups. A call has at most one member of each, but for those from CLEARINGS on:
-   those are counted for each CLRWIN, each line, each circle, each origin and each repeat on its way, and for its list. */
+   those are counted for each CLRWIN, each line, each circle, each origin and each repeat on its way, for its list, and for each
+   dot that is asked for. */
 enum group {
     CALLS, LISTS, ENVIRONMENTS, BROKEN_FIELDS, SIZES, PANES, WINDOWS, MODES, BUDGETS, SCREENS,
     DOOR_PAIRS, OPCODE_PAIRS, PROFILES, SLICED, SLICES, FRESH_CALLS, NUMBERS, PLACES, MISNAMED, CLEARINGS, LINES, HALVES, CUTS,
@@ -20,6 +24,7 @@ enum group {
     ORIGINS_SET, REFUSED_ORIGINS, ORIGINS, MOVED_SHAPES, SUMS, MOVED_WINDOWS, MODES_CHANGED,
     OPEN_REPEATS, REPEAT_FIELDS, REPEATS_OPENED, COUNTS, REFUSED_REPEATS, WENT_BACK, CLOSED, PASSES, WITH_REPEATS, SLICED_REPEATS,
     CHECKED, CHECKED_STEPS, CHECKED_DEPTHS, CHECKED_ENDS, CHECKED_21, CHECKED_CUTS, CHECKED_COUNTS, CHECKED_RUNS,
+    WHO_NUMBERS, WHO_OUTSIDE, WHO_SOONER, WHO_DOTS, WHO_WRITERS, WHO_STEPS, WHO_BEFORE, WHO_RUNS, WHO_OF_NOBODY,
     GROUPS
 };
 
@@ -202,6 +207,32 @@ enum {
     RUN_REFUSED_28, RUN_REFUSED_29, RUN_REFUSED_SOONER, RUN_NOT_YET, RUN_ON_AND_ON
 };
 
+/* A dot outside the screen that was refused with 25: next to one of its sides, at a corner, beyond a word, or at either end of
+   32 bits; and the number that came sooner for such a dot. */
+enum {
+    OUTSIDE_LEFT, OUTSIDE_TOP, OUTSIDE_RIGHT, OUTSIDE_BOTTOM, OUTSIDE_CORNER, OUTSIDE_BEYOND_WORD, OUTSIDE_LOWEST, OUTSIDE_HIGHEST
+};
+enum { SOONER_10, SOONER_12 };
+
+/* A dot of the screen: in the pane, not at its edge or at it, or not in the pane, next to it or not; and one in the pane that the
+   window leaves out with which the environment comes, next to the window or not. */
+enum { DOT_IN_PANE, DOT_AT_PANE_EDGE, DOT_NEXT_TO_PANE, DOT_OFF_PANE, DOT_NEXT_TO_WINDOW, DOT_OFF_WINDOW };
+
+/* The opcode that last wrote a dot: a line whose type stands in the list, or in a variable. */
+enum {
+    WRITER_PIXEL, WRITER_PIXELC, WRITER_LINE, WRITER_DASHED_LINE, WRITER_LINE_V, WRITER_FILLED_CIRCLE, WRITER_OUTLINE, WRITER_CLEARING
+};
+
+/* Its step: the first, the last that was carried out, both, or one between; and one above 200, or at word 0. */
+enum { STEP_FIRST, STEP_LAST, STEP_ONLY, STEP_BETWEEN, STEP_ABOVE_200, STEP_AT_WORD_0 };
+
+/* What the dot was before: as the call has it, or written by an earlier step of the run; in another colour, or in that one. */
+enum { BEFORE_UNWRITTEN, BEFORE_UNWRITTEN_SAME, BEFORE_WRITTEN, BEFORE_WRITTEN_SAME };
+
+/* How the run went in which a step wrote the dot, or none did: the list ends, runs on, is refused later, or isn't run with 11 but
+   asked all the same; where none did, also an environment that had ended or was stopped, and a budget of 0. */
+enum { WHO_RUN_ENDS, WHO_RUN_GOES_ON, WHO_RUN_REFUSED, WHO_RUN_11, WHO_HAD_ENDED, WHO_WAS_STOPPED, WHO_NO_BUDGET };
+
 enum { NOT_OF_A_KIND = -1, NO_EXPECTATION = -1 };
 
 struct call {
@@ -213,6 +244,7 @@ struct call {
     uint32_t budget;
     int expected;        /* the number that must come back where the maker knows it */
     int expected_check;  /* the number that the checker must tell of the list, the same way */
+    struct ovenlute_dot dots[DOTS_ASKED];  /* that it is asked for, made when it has run */
     int kinds[GROUPS];
 };
 

@@ -3,6 +3,7 @@
 #include "count.h"
 #include "libc.h"
 #include "shrink.h"
+#include "writers.h"
 
 enum { DIFFERENCES_SHOWN = 3 };
 
@@ -28,12 +29,16 @@ static void show_smallest(const struct call *call)
     print_difference(&smallest);
 }
 
-void check_call(const struct call *call, struct verdict *verdict)
+void check_call(struct call *call, struct verdict *verdict)
 {
-    judge(call, verdict);
+    run_both(call, verdict);
+    make_dots(call, verdict->box.screen);
+    compare_both(call, verdict);
     count_call(call, verdict->box.number, verdict->box.place);
-    if (verdict->difference == NULL)
+    if (verdict->difference == NULL) {
         count_checked(call, &verdict->box, verdict->checked);
+        count_writers(call, &verdict->box, verdict->writers);
+    }
     if (verdict->difference != NULL && is_shown()) {
         show_smallest(call);
         judge(call, verdict);

@@ -9,7 +9,8 @@ int is_shown(void);
 
 unsigned long long differences_counted(void);
 
-void check_call(const struct call *call, struct verdict *verdict);
+/* Makes the call's dots too, when it has run. */
+void check_call(struct call *call, struct verdict *verdict);
 
 /* The call goes on from what the box left. */
 void go_on(struct call *call, const struct verdict *verdict);

@@ -150,6 +150,21 @@ static void check_two_panes(void)
 
 static const size_t PAST_32_BITS = (size_t)1 << 32;
 
+/* The number that is told with who painted the screen's first dot. */
+static int huge_who(const struct call *call, const uint16_t *list, size_t words)
+{
+    return ovenlute_who(list, words, call->env, call->budget, (struct ovenlute_dot){ 0, 0 }).number;
+}
+
+static int huge_reference_who(const struct afgis_env *env, const struct call *call, const uint16_t *list, size_t words)
+{
+    struct afgis_dot dot = { 0, 0 };
+    struct afgis_writer writer;
+
+    afgis_who(list, words, env, call->budget, &dot, 1, &writer);
+    return writer.number;
+}
+
 /* A call that must be refused at the door with this number; its list and screen can only be read. */
 static void check_huge_call(const struct call *call, uint8_t *room, size_t words, size_t bytes, int number)
 {
@@ -158,6 +173,7 @@ static void check_huge_call(const struct call *call, uint8_t *room, size_t words
     struct ovenlute_env env = call->env;
     struct ovenlute_done done = ovenlute_run(list, words, screen, bytes, &env, call->budget);
     struct ovenlute_checked checked = ovenlute_check(list, words);
+    int who = huge_who(call, list, words);
     struct afgis_env reference_env;
     struct afgis_answer answer;
     int is_right;
@@ -167,7 +183,8 @@ static void check_huge_call(const struct call *call, uint8_t *room, size_t words
     count_call(call, done.number, done.place);
     is_right = done.number == number && done.place == 0 && done.steps == 0 && same_env(&env, &call->env)
         && answer.number == number && answer.place == 0
-        && checked.number == afgis_check(list, words).number;
+        && checked.number == afgis_check(list, words).number
+        && who == (number == 11 ? 0 : number) && who == huge_reference_who(&reference_env, call, list, words);
     if (!is_right && is_shown())
         printf("difference: %llu words and %llu bytes: box %d, reference %d, wanted %d\n", (unsigned long long)words,
                (unsigned long long)bytes, done.number, answer.number, number);

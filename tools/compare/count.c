@@ -119,6 +119,19 @@ static const struct {
                                                   "stopped by 25", "stopped by 26", "20 too", "22 too", "24 too", "28 too",
                                                   "29 too", "23 to 26 sooner", "budget short of a fault",
                                                   "31 and on and on" } },
+    [WHO_NUMBERS] = { "who", { "0", "10", "12", "13", "14", "25" } },
+    [WHO_OUTSIDE] = { "25 for a dot", { "left of the screen", "above it", "right of it", "below it", "at its corner", "beyond a word",
+                                        "at -2^31", "at 2^31 - 1" } },
+    [WHO_SOONER] = { "a dot outside, and sooner", { "10", "12", "13", "14" } },
+    [WHO_DOTS] = { "dots", { "in the pane", "at its edge", "next to it", "off it", "next to the window", "off the window" } },
+    [WHO_WRITERS] = { "written by", { "PIXEL", "PIXELC", "line", "dashed line", "line of variables", "filled circle", "outline",
+                                      "CLRWIN" } },
+    [WHO_STEPS] = { "written in", { "the first step", "the last", "the only one", "one between", "one above 200",
+                                    "an opcode at word 0" } },
+    [WHO_BEFORE] = { "before that", { "not written", "not written, of that colour", "written", "written in that colour" } },
+    [WHO_RUNS] = { "written in a run that", { "ends", "runs on", "is refused", "is 11" } },
+    [WHO_OF_NOBODY] = { "not written in a run that", { "ends", "runs on", "is refused", "is 11", "had ended", "was stopped",
+                                                       "has no budget" } },
 };
 
 static uint64_t kinds_met[GROUPS][MOST_MEMBERS];

@@ -1,6 +1,7 @@
 #include "judge.h"
 #include "libc.h"
 #include "profile.h"
+#include "who.h"
 
 enum { GUARD = 64, GUARD_BYTE = 0xA5 };
 
@@ -66,8 +67,7 @@ static int changed_nothing(const struct call *call, const struct outcome *outcom
         && memcmp(outcome->screen, call->screen, call->bytes) == 0;
 }
 
-static const char *difference(const struct call *call, const struct outcome *box, const struct outcome *reference,
-                              struct ovenlute_checked checked)
+static const char *run_difference(const struct call *call, const struct outcome *box, const struct outcome *reference)
 {
     if (box->number != reference->number)
         return "the number";
@@ -87,15 +87,30 @@ static const char *difference(const struct call *call, const struct outcome *box
         return "refused, and yet something was changed";
     if (call->expected != NO_EXPECTATION && box->number != call->expected)
         return "both numbers are other than the one that was to be met";
-    return checked_difference(call, box, checked);
+    return NULL;
+}
+
+void run_both(const struct call *call, struct verdict *verdict)
+{
+    run_box(call, &verdict->box);
+    run_reference(call, &verdict->reference);
+}
+
+void compare_both(const struct call *call, struct verdict *verdict)
+{
+    verdict->checked = ovenlute_check(box_list, call->words);
+    ask_who(call, box_list, verdict->writers);
+    verdict->difference = run_difference(call, &verdict->box, &verdict->reference);
+    if (verdict->difference == NULL)
+        verdict->difference = checked_difference(call, &verdict->box, verdict->checked);
+    if (verdict->difference == NULL)
+        verdict->difference = who_difference(call, &verdict->box, verdict->writers);
 }
 
 void judge(const struct call *call, struct verdict *verdict)
 {
-    run_box(call, &verdict->box);
-    run_reference(call, &verdict->reference);
-    verdict->checked = ovenlute_check(box_list, call->words);
-    verdict->difference = difference(call, &verdict->box, &verdict->reference, verdict->checked);
+    run_both(call, verdict);
+    compare_both(call, verdict);
 }
 
 const char *judge_fresh(const struct request *request, int *number)

@@ -1,4 +1,5 @@
-/* Runs the box and the reference on the same call, has both check its list, and compares the whole answers. */
+/* Runs the box and the reference on the same call, has both check its list and tell who painted its dots, and compares the whole
+   answers. */
 #ifndef JUDGE_H
 #define JUDGE_H
 
@@ -16,8 +17,15 @@ struct outcome {
 struct verdict {
     struct outcome box, reference;
     struct ovenlute_checked checked;  /* what the box says of the list */
+    struct ovenlute_writer writers[DOTS_ASKED];  /* and of the call's dots */
     const char *difference;  /* what is wrong, or NULL */
 };
+
+/* The run alone; then the call's dots can be made. */
+void run_both(const struct call *call, struct verdict *verdict);
+
+/* What is asked of a call that was run: its list and its dots; and the verdict. */
+void compare_both(const struct call *call, struct verdict *verdict);
 
 void judge(const struct call *call, struct verdict *verdict);
 

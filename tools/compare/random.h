@@ -4,7 +4,14 @@
 
 #include <stdint.h>
 
+/* Two streams: what is asked of a call does not change the calls that follow, those of a seed stay the same. */
+enum stream { STREAM_OF_CALLS, STREAM_OF_DOTS, STREAMS };
+
+/* Both begin by the seed; the calls' is drawn from. */
 void random_seed(uint64_t seed);
+
+/* The stream that is drawn from until it is told otherwise. */
+void draw_from(enum stream stream);
 
 /* Any 32 bits. */
 uint32_t random_bits(void);

@@ -1,5 +1,6 @@
 #include "libc.h"
 #include "shrink.h"
+#include "who.h"
 
 enum { MOST_TRIES = 20000, PARTS_KEPT = 100, WORDS_SHOWN = 64, BYTES_SHOWN = 8 };
 
@@ -341,6 +342,17 @@ static void print_checked(const struct call *call, struct ovenlute_checked box)
            (unsigned)box.steps, reference.number, (unsigned)reference.place, (unsigned)reference.steps);
 }
 
+static void print_writers(const struct call *call, const struct ovenlute_writer *box)
+{
+    struct afgis_writer wanted[DOTS_ASKED];
+
+    ask_reference_who(call, wanted);
+    for (int i = 0; i < DOTS_ASKED; i++)
+        printf("  who at (%d, %d): box %d, step %u, opcode %u, colour %u; reference %d, step %u, opcode %u, colour %u\n",
+               (int)call->dots[i].x, (int)call->dots[i].y, box[i].number, (unsigned)box[i].step, (unsigned)box[i].opcode,
+               box[i].colour, wanted[i].number, (unsigned)wanted[i].step, (unsigned)wanted[i].opcode, wanted[i].colour);
+}
+
 static void print_bytes(const struct call *call, const struct verdict *verdict)
 {
     uint32_t width = call->env.bounds.width;
@@ -382,5 +394,6 @@ void print_difference(const struct call *call)
     print_outcome("box", call, &verdict.box);
     print_outcome("reference", call, &verdict.reference);
     print_checked(call, verdict.checked);
+    print_writers(call, verdict.writers);
     print_bytes(call, &verdict);
 }
