@@ -1,7 +1,7 @@
 #include "judge.h"
 #include "libc.h"
 #include "profile.h"
-#include "who.h"
+#include "asked.h"
 
 enum { GUARD = 64, GUARD_BYTE = 0xA5 };
 

@@ -1,6 +1,6 @@
 #include "libc.h"
 #include "shrink.h"
-#include "who.h"
+#include "asked.h"
 
 enum { MOST_TRIES = 20000, PARTS_KEPT = 100, WORDS_SHOWN = 64, BYTES_SHOWN = 8 };
 

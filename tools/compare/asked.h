@@ -1,6 +1,6 @@
 /* Who painted a dot: ovenlute_who against the reference's record of step numbers, and against the call's own run. */
-#ifndef WHO_H
-#define WHO_H
+#ifndef ASKED_H
+#define ASKED_H
 
 #include "judge.h"
 

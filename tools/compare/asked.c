@@ -1,4 +1,4 @@
-#include "who.h"
+#include "asked.h"
 
 void ask_who(const struct call *call, const uint16_t *list, struct ovenlute_writer *writers)
 {
