@@ -2,6 +2,8 @@
  * How long the box takes against plain C for the same work: ratios of the best of some trials. "Plain C" is
  * plain.c (Bresenham, a test per dot, two of a dashed line; memset row by row; circles by the half width of each row), "reference" is
  * reference/afgis.c (a division and a test per dot; a test per pixel), "memset" is one memset over the whole screen.
+ * Then how long it takes to be told who painted a dot, against a run of the same steps in an empty window, which paints nothing, and
+ * against plain C (plain_who.c: a question for each opcode that paints, without a division).
  */
 
 #include "afgis.h"
@@ -109,9 +111,9 @@ static void make_dashed_lines(void)
     put_lines(1);
 }
 
-static void put_short_lines(int32_t type)
+static void put_short_lines(int32_t type, int count)
 {
-    for (int i = 0; i < 10000; i++) {
+    for (int i = 0; i < count; i++) {
         int32_t x = between(8, WIDTH - 9), y = between(8, HEIGHT - 9);
         int32_t dx = between(-7, 7), dy = between(-7, 7);
         put_line(type, x, y, x + dx, y + dy);
@@ -121,13 +123,13 @@ static void put_short_lines(int32_t type)
 
 static void make_short_lines(void)
 {
-    put_short_lines(0);
+    put_short_lines(0, 10000);
 }
 
 static void make_short_dashed_lines(void)
 {
     put_pattern(0x55555555);
-    put_short_lines(1);
+    put_short_lines(1, 10000);
 }
 
 static void put_far_lines(int32_t type)
@@ -464,6 +466,123 @@ static void print_small_pane(const double *in_small, const double *in_large)
            in_large[REFERENCE] / in_small[REFERENCE]);
 }
 
+/* ---- who painted a dot ---- */
+
+/* The list goes round and round for a million steps, and it is asked once for a dot in the screen's middle. */
+struct question {
+    const char *name;
+    void (*make_list)(void);
+};
+
+/* As many as a relative jump leads back over. */
+static void make_fewer_short_lines(void)
+{
+    put_short_lines(0, 5000);
+}
+
+static const struct question questions[] = {
+    { "lines on the screen", make_lines },
+    { "short lines, up to 8 dots", make_fewer_short_lines },
+    { "dashed lines on the screen", make_dashed_lines },
+    { "discs of radius 40", make_discs_of_40 },
+    { "outlines of radius 40", make_outlines_of_40 },
+    { "CLRWIN", make_clear },
+};
+
+/* JUMPR to the list's first word in place of the EODL. */
+static void go_round(void)
+{
+    words--;
+    put(0x010C);
+    put(0);
+    put(-(int32_t)words - 1);
+}
+
+static const struct ovenlute_pane whole = { 0, 0, WIDTH - 1, HEIGHT - 1 };
+
+typedef struct afgis_writer asker(void);
+
+static struct afgis_writer ask_box(void)
+{
+    struct ovenlute_made made = ovenlute_fresh(WIDTH, HEIGHT, whole);
+    struct ovenlute_writer writer = ovenlute_who(list, words, made.env, STEPS, (struct ovenlute_dot){ WIDTH / 2, HEIGHT / 2 });
+
+    return (struct afgis_writer){ writer.number, writer.colour, writer.step, writer.opcode };
+}
+
+static struct afgis_writer ask_plain(void)
+{
+    struct afgis_env env;
+
+    afgis_fresh(WIDTH, HEIGHT, 0, 0, WIDTH - 1, HEIGHT - 1, &env);
+    return plain_who(list, words, env, STEPS, (struct afgis_dot){ WIDTH / 2, HEIGHT / 2 });
+}
+
+/* The box's run in a window that is empty; what it answers is told as a step. */
+static struct afgis_writer run_unseen(void)
+{
+    struct ovenlute_made made = ovenlute_fresh(WIDTH, HEIGHT, whole);
+    struct ovenlute_done done;
+
+    made.env.registers.mode = 1;
+    made.env.registers.window = (struct ovenlute_window){ 1, 0, 0, HEIGHT - 1 };
+    done = ovenlute_run(list, words, screen, (size_t)WIDTH * HEIGHT, &made.env, STEPS);
+    return (struct afgis_writer){ done.number, 0, done.steps, 0 };
+}
+
+enum { ASK_BOX, ASK_PLAIN, RUN_UNSEEN, ASKERS };
+
+static asker *const askers[ASKERS] = { ask_box, ask_plain, run_unseen };
+
+static int tell_the_same(void)
+{
+    struct afgis_writer box = ask_box(), plain = ask_plain(), unseen = run_unseen();
+
+    return box.number == plain.number && box.colour == plain.colour && box.step == plain.step && box.opcode == plain.opcode
+        && unseen.number == OVENLUTE_BUDGET && unseen.step == STEPS;
+}
+
+static void measure_askers(double *best)
+{
+    for (int trial = 0; trial < TRIALS; trial++)
+        for (int i = 0; i < ASKERS; i++) {
+            int turn = (trial + i) % ASKERS;
+            double start = now(), time;
+            askers[turn]();
+            time = now() - start;
+            if (trial == 0 || time < best[turn])
+                best[turn] = time;
+        }
+}
+
+static int ask(const struct question *question)
+{
+    double best[ASKERS];
+
+    words = 0;
+    question->make_list();
+    go_round();
+    if (!tell_the_same()) {
+        printf("%s: the answers differ\n", question->name);
+        return 0;
+    }
+    measure_askers(best);
+    printf("| %s |", question->name);
+    print_ratio(best[ASK_BOX], best[RUN_UNSEEN]);
+    print_ratio(best[ASK_BOX], best[ASK_PLAIN]);
+    printf("\n");
+    return 1;
+}
+
+static int ask_all(void)
+{
+    printf("\n| Who painted a dot, in a million steps of | box / its run that paints nothing | box / plain C |\n|---|---|---|\n");
+    for (size_t i = 0; i < sizeof questions / sizeof questions[0]; i++)
+        if (!ask(&questions[i]))
+            return 0;
+    return 1;
+}
+
 int main(void)
 {
     double best[WORKS][SIDES];
@@ -480,5 +599,5 @@ int main(void)
         print_row(&works[i], best[i]);
     }
     print_small_pane(best[WORKS - 2], best[WORKS - 1]);
-    return 0;
+    return !ask_all();
 }
