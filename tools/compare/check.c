@@ -32,7 +32,7 @@ static void show_smallest(const struct call *call)
 void check_call(struct call *call, struct verdict *verdict)
 {
     run_both(call, verdict);
-    make_dots(call, verdict->box.screen);
+    make_dots(call, &verdict->box.env, verdict->box.screen);
     compare_both(call, verdict);
     count_call(call, verdict->box.number, verdict->box.place);
     if (verdict->difference == NULL) {

@@ -33,9 +33,9 @@ void make_call_to_cut(struct call *call);
 
 void make_request(struct request *request);
 
-/* Makes the dots of a call by what its run has left on the screen: dots that it painted and those beside them, any dot of the screen,
-   the corners of screen, pane and window, and dots outside. */
-void make_dots(struct call *call, const uint8_t *screen);
+/* Makes the dots of a call by what its run has left: dots that it painted and those beside them, points of the opcode at which it
+   stands, any dot of the screen, the corners of screen, pane and window, and dots outside. */
+void make_dots(struct call *call, const struct ovenlute_env *after, const uint8_t *screen);
 
 /* Sets a call's budget, and its kind. */
 void set_budget(struct call *call, uint32_t budget);

@@ -63,14 +63,33 @@ static struct ovenlute_dot outside_dot(const struct ovenlute_bounds *bounds)
     return dot;
 }
 
+/* A point that may be the opcode's at which the run stands, refused or behind the budget: two words behind it, or the low words of two
+   variables that it names. */
+static struct ovenlute_dot next_point(const struct call *call, const struct ovenlute_env *after)
+{
+    size_t at = after->registers.counter + (size_t)between(1, 4);
+    uint32_t first, second;
+
+    if (at + 1 >= call->words)
+        return any_dot(&after->bounds);
+    first = call->list[at];
+    second = call->list[at + 1];
+    if (one_in(2)) {
+        uint32_t variable = call->list[after->registers.counter + 1] + below(3);
+        first = (uint32_t)after->variables[variable % VARIABLES];
+        second = (uint32_t)after->variables[(variable + 1) % VARIABLES];
+    }
+    return (struct ovenlute_dot){ after->registers.origin.x + (int16_t)first, after->registers.origin.y + (int16_t)second };
+}
+
 static struct ovenlute_dot beside(struct ovenlute_dot dot)
 {
     return (struct ovenlute_dot){ dot.x + between(-1, 1), dot.y + between(-1, 1) };
 }
 
-static struct ovenlute_dot make_dot(const struct call *call, const uint8_t *screen)
+static struct ovenlute_dot make_dot(const struct call *call, const struct ovenlute_env *after, const uint8_t *screen)
 {
-    switch (below(8)) {
+    switch (below(10)) {
     case 0:
         return outside_dot(&call->env.bounds);
     case 1:
@@ -78,16 +97,18 @@ static struct ovenlute_dot make_dot(const struct call *call, const uint8_t *scre
     case 2: case 3:
         return any_dot(&call->env.bounds);
     case 4: case 5:
+        return next_point(call, after);
+    case 6: case 7:
         return beside(changed_dot(call, screen));
     default:
         return changed_dot(call, screen);
     }
 }
 
-void make_dots(struct call *call, const uint8_t *screen)
+void make_dots(struct call *call, const struct ovenlute_env *after, const uint8_t *screen)
 {
     draw_from(STREAM_OF_DOTS);
     for (int i = 0; i < DOTS_ASKED; i++)
-        call->dots[i] = make_dot(call, screen);
+        call->dots[i] = make_dot(call, after, screen);
     draw_from(STREAM_OF_CALLS);
 }
