@@ -28,32 +28,36 @@ listening_toolchain() {
     chmod +x "$room/toolchain/bin/clang"
 }
 
-# The module of ovenlute: the crate is proved again, over the libraries that tools/archive/run has proved.
+# module FACE: its module, in a form that can be read; the crate is proved again, over the libraries that tools/archive/run has proved.
 module() {
-    listening_toolchain
+    face=$1
     set -- --extern "std=$own/rlib/std.rlib"
-    for crate in $(sed -n 's/^ovenlute: //p' crates.txt); do
+    for crate in $(sed -n "s/^$face: //p" crates.txt); do
         set -- "$@" --extern "$crate=target/rlib/$crate.rlib"
     done
-    "$own/bin/rattle" build --crate-name ovenlute crates/ovenlute/src/lib.rt "$@" \
+    "$own/bin/rattle" build --crate-name "$face" "crates/$face/src/lib.rt" "$@" \
         -L dependency=target/rlib -L "dependency=$own/rlib" \
         --antt-project "$own/../../logic/antt-project.json" --logic-built "$own/logic-built" \
         --toolchain "$room/toolchain" --crate-type staticlib -o "$room/listened.a" >"$room/module.log" 2>&1 || {
         cat "$room/module.log" >&2
         return 1
     }
-}
-
-# Sets box. A struct that is too large for registers is returned as x86-64 does it, so fresh.c stands between.
-box_for_this_machine() {
-    module
     "$tools/bin/clang" --target=x86_64-unknown-linux-gnu -O0 -Xclang -disable-llvm-passes -S -emit-llvm -x ir \
         "$room/module.bc" -o "$room/module.ll"
-    sed -e 's/^target triple = .*/target triple = "'"$target"'"/' -e '/^target datalayout = /d' \
-        -e 's/"target-cpu"="[^"]*"//; s/"probe-stack"="[^"]*"//' -e 's/@ovenlute_fresh(/@box_fresh(/' \
-        "$room/module.ll" >"$room/native.ll"
-    "$tools/bin/clang" --target="$target" -O3 -fPIC -c -x ir "$room/native.ll" -o "$room/box.o"
-    compile tools/bench/fresh.c "$room/fresh.o"
-    "$tools/bin/llvm-ar" rc "$room/box.a" "$room/box.o" "$room/fresh.o"
+}
+
+# Sets box: the two faces that are timed. A struct that is too large for registers is passed as x86-64 does it, so native.c stands
+# between.
+box_for_this_machine() {
+    listening_toolchain
+    for face in ovenlute who; do
+        module "$face"
+        sed -e 's/^target triple = .*/target triple = "'"$target"'"/' -e '/^target datalayout = /d' \
+            -e 's/"target-cpu"="[^"]*"//; s/"probe-stack"="[^"]*"//' -e 's/@ovenlute_fresh(/@box_fresh(/' \
+            -e 's/@ovenlute_who(/@box_who(/; s/ byval([^)]*) align [0-9]*//' "$room/module.ll" >"$room/native.ll"
+        "$tools/bin/clang" --target="$target" -O3 -fPIC -c -x ir "$room/native.ll" -o "$room/box_$face.o"
+    done
+    compile tools/bench/native.c "$room/native.o"
+    "$tools/bin/llvm-ar" rc "$room/box.a" "$room/box_ovenlute.o" "$room/box_who.o" "$room/native.o"
     box=$room/box.a
 }
