@@ -56,7 +56,7 @@ struct afgis_dot {
 struct afgis_writer {
     int number;
     uint8_t colour;                     /* that the step painted */
-    uint32_t step;                      /* the one that "last wrote that dot", "counted from 1"; 0 where "no step did", and all else is 0 */
+    uint32_t step;                      /* the one that "last wrote that dot", "counted from 1"; where "no step did" all is 0 */
     uint32_t opcode;                    /* "its word index in the list" */
 };
 
