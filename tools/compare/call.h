@@ -223,8 +223,8 @@ enum {
     WRITER_PIXEL, WRITER_PIXELC, WRITER_LINE, WRITER_DASHED_LINE, WRITER_LINE_V, WRITER_FILLED_CIRCLE, WRITER_OUTLINE, WRITER_CLEARING
 };
 
-/* Its step: the first, the last that was carried out, both, or one between; and one above 200, or at word 0. */
-enum { STEP_FIRST, STEP_LAST, STEP_ONLY, STEP_BETWEEN, STEP_ABOVE_200, STEP_AT_WORD_0 };
+/* Its step: the first, the last that was carried out, both, or one between; and one above 200, above 16 bits, or at word 0. */
+enum { STEP_FIRST, STEP_LAST, STEP_ONLY, STEP_BETWEEN, STEP_ABOVE_200, STEP_ABOVE_65535, STEP_AT_WORD_0 };
 
 /* What the dot was before: as the call has it, or written by an earlier step of the run; in another colour, or in that one. */
 enum { BEFORE_UNWRITTEN, BEFORE_UNWRITTEN_SAME, BEFORE_WRITTEN, BEFORE_WRITTEN_SAME };

@@ -12,7 +12,7 @@
 #include "shrink.h"
 #include "slices.h"
 
-enum { DEFAULT_SEED = 1, DEFAULT_CALLS = 500000 };
+enum { DEFAULT_SEED = 1, DEFAULT_CALLS = 500000, LONG_RUNS = 12 };
 
 /* ---- one call ---- */
 
@@ -33,6 +33,17 @@ static void check_opcode_words(void)
 
     for (uint32_t word = 0; word < 65536; word++) {
         make_opcode_word_call(&call, (uint16_t)word);
+        check_call(&call, &verdict);
+    }
+}
+
+static void check_long_runs(void)
+{
+    static struct call call;
+    struct verdict verdict;
+
+    for (int i = 0; i < LONG_RUNS; i++) {
+        make_long_run(&call);
         check_call(&call, &verdict);
     }
 }
@@ -235,6 +246,7 @@ int main(int count, char **arguments)
     check_huge_lengths();
     while (calls_counted() < calls)
         check_something();
+    check_long_runs();
     check_lit();
     never = print_counts();
     printf("seed %llu, %llu calls, %llu differences, %d kinds never met\n", seed,

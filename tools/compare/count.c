@@ -127,7 +127,7 @@ static const struct {
     [WHO_WRITERS] = { "written by", { "PIXEL", "PIXELC", "line", "dashed line", "line of variables", "filled circle", "outline",
                                       "CLRWIN" } },
     [WHO_STEPS] = { "written in", { "the first step", "the last", "the only one", "one between", "one above 200",
-                                    "an opcode at word 0" } },
+                                    "one above 65535", "an opcode at word 0" } },
     [WHO_BEFORE] = { "before that", { "not written", "not written, of that colour", "written", "written in that colour" } },
     [WHO_RUNS] = { "written in a run that", { "ends", "runs on", "is refused", "is 11" } },
     [WHO_OF_NOBODY] = { "not written in a run that", { "ends", "runs on", "is refused", "is 11", "had ended", "was stopped",

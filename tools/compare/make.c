@@ -212,3 +212,19 @@ void make_opcode_word_call(struct call *call, uint16_t word)
     call->env.registers.counter = 0;
     set_budget(call, 4);
 }
+
+/* PIXEL, INCV, and back to the PIXEL. */
+void make_long_run(struct call *call)
+{
+    static const uint16_t loop[] = { 0x009E, 3, 2, 0x005D, 0, 0x010C, 0, 0xFFF8 };
+    struct ovenlute_pane whole = { 0, 0, 6, 4 };
+
+    start_call(call);
+    call->kinds[LISTS] = LIST_LOOP;
+    memcpy(call->list, loop, sizeof loop);
+    call->words = sizeof loop / sizeof loop[0];
+    fresh_env(&call->env, 7, 5, whole);
+    set_budget(call, (uint32_t)between(70000, 200000));
+    call->bytes = good_bytes(call);
+    fill_screen(call);
+}

@@ -25,6 +25,9 @@ void make_good_call(struct call *call);
 /* A call with a budget of 0 to 60, which the door may refuse with 10 to 13. */
 void make_call_to_slice(struct call *call);
 
+/* A good call whose list paints a dot on and on, in more steps than 16 bits count. */
+void make_long_run(struct call *call);
+
 /* A good call whose list begins with this word. */
 void make_opcode_word_call(struct call *call, uint16_t word);
 

@@ -120,7 +120,7 @@ static void count_step(const struct call *call, const struct outcome *run, struc
     count_kind(WHO_WRITERS, writer_kind(call->list + writer->opcode));
     count_kind(WHO_STEPS, step_kind(writer->step, run->steps));
     if (writer->step > 200)
-        count_kind(WHO_STEPS, STEP_ABOVE_200);
+        count_kind(WHO_STEPS, writer->step > 65535 ? STEP_ABOVE_65535 : STEP_ABOVE_200);
     if (writer->opcode == 0)
         count_kind(WHO_STEPS, STEP_AT_WORD_0);
     count_kind(WHO_BEFORE, before_kind(call, dot, writer));
