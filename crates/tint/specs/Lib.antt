@@ -1,0 +1,2 @@
+-- What the contracts and theorems of tint cite.
+pub mod Tint

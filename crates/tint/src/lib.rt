@@ -1,0 +1,63 @@
+// A list is run with every opcode painting in a tint, so that a picture shows who painted what.
+use act::registers::cells_of;
+use act::registers::gathered;
+use act::registers::points_of;
+use act::stack::nesting;
+use act::stack::numbers_of;
+use act::stack::repeats_of;
+use act::stack::returns_of;
+use rules::answer::Answer;
+use rules::environment::Env;
+use rules::environment::state_of;
+use run::door::door;
+use run::run::refused;
+use run::run::verdict_of;
+use turns::tinted_turns;
+ghost use Rattle.tint.specs.Tint.{Promise};
+
+mod tint; // the tint of an opcode, and painting in it
+mod turns; // as many as the budget allows
+
+// As `run::run::run`, with other colours on the screen.
+pub fn tinted(list: &[u16], screen: &mut [u8], env: Env, budget: u32) -> Answer
+    ensures { λ a. ⌜ Promise (now (list .entry)) (now (screen .entry)) env budget a (now (screen .exit)) ⌝ }
+{
+    let b = env.bounds;
+    let r = env.registers;
+    let mut vars = env.variables;
+    let returns = env.stack;
+    let repeats = env.repeats;
+    let mut stack = numbers_of(returns, env.nesting, repeats);
+    let d = door(list.len(), screen.len(), b, r, &stack, budget);
+    if d != 0 {
+        return refused(d, env);
+    }
+    let mut cells = cells_of(r);
+    let mut points = points_of(r);
+    let steps = tinted_turns(
+        list,
+        b,
+        &mut cells,
+        &mut points,
+        &mut vars,
+        &mut stack,
+        screen,
+        budget,
+    );
+    let registers = gathered(&cells, &points);
+    let v = verdict_of(state_of(registers));
+    let place = v.place;
+    Answer {
+        number: v.number,
+        place,
+        env: Env {
+            bounds: b,
+            registers,
+            variables: vars,
+            stack: returns_of(stack),
+            nesting: nesting(&stack),
+            repeats: repeats_of(stack),
+        },
+        steps,
+    }
+}
