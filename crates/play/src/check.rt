@@ -1,6 +1,5 @@
 // Tells whether a list surely finishes: to standard output in how many steps it does, or to standard error why it may not.
 use crate::end::End;
-use crate::place::tell_fault;
 use checker::Checked;
 use errand::file::Read;
 use errand::file::load_list;
@@ -8,6 +7,7 @@ use errand::span::Span;
 use errand::span::bytes_of;
 use errand::span::words_of;
 use libc::STDOUT_FILENO;
+use messages::place::tell_fault;
 
 // The list whose name is argument `at`.
 pub fn check_list(at: usize, words: &mut [u16]) -> End {

@@ -1,11 +1,8 @@
 // Plays lists on a screen of zeros, or checks one: the picture, or how many steps a list takes, goes to standard output, a line
 // for each list that is played or refused to standard error, and how it ended to descriptor 3.
 mod check; // whether a list surely finishes
-mod digits; // numbers on standard error
 mod end; // how it ended
-mod output; // writes the picture
 mod page; // the lists of a page
-mod place; // where a list was stopped or is refused
 mod report; // a line for each list
 mod slices; // runs the lists of a page in turn
 
@@ -20,13 +17,13 @@ use errand::file::Read;
 use errand::file::load_page;
 use errand::span::Span;
 use errand::span::bytes_of;
+use messages::words::refuse;
 use output::write;
 use page::Page;
 use page::empty;
 use page::fresh;
 use page::page_of;
 use page::with_list;
-use report::refuse;
 use report::report;
 use slices::rounds;
 ghost use mathlib.Core.Path.{_≡_};

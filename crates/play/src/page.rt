@@ -1,5 +1,4 @@
 // The lists of a page.
-use crate::report::refuse;
 use errand::arguments::BUDGET;
 use errand::arguments::Given;
 use errand::file::Read;
@@ -13,6 +12,7 @@ use errand::path::place;
 use errand::say::complain;
 use errand::span::Span;
 use errand::span::bytes_of;
+use messages::words::refuse;
 use raster::frame::Pane;
 use rules::answer::Made;
 use rules::environment::Env;

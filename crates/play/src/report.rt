@@ -1,25 +1,17 @@
-// The lines on standard error.
-use crate::digits::decimal;
-use crate::digits::index;
+// The lines of the lists that were played, on standard error.
 use crate::end::Ends;
 use crate::end::none_yet;
 use crate::end::with_number;
 use crate::page::PLACES;
 use crate::page::Page;
 use crate::page::Playing;
-use crate::place::tell_place;
 use errand::say::say;
-use errand::span::Span;
 use errand::span::bytes_of;
 use errand::span::words_of;
-use wording::Words;
-use wording::words_for;
-
-// The number that a list is refused with, and what it means.
-pub fn refuse(name: &[u8], number: u8) {
-    tell(name, number);
-    say(b"\n");
-}
+use messages::digits::decimal;
+use messages::digits::index;
+use messages::place::tell_place;
+use messages::words::tell;
 
 // A line for each list; answers how they ended.
 pub fn report(names: &[u8], words: &[u16], page: Page) -> Ends {
@@ -55,19 +47,4 @@ fn line(name: &[u8], list: &[u16], playing: Playing) {
     say(b" (");
     decimal(counter.0);
     say(b")\n");
-}
-
-// NAME: NUMBER, what it means.
-pub fn tell(name: &[u8], number: u8) {
-    say(name);
-    say(b": ");
-    decimal(number as u32);
-    say(b", ");
-    say_words(words_for(number));
-}
-
-pub fn say_words(words: Words) {
-    let to = words.length as usize;
-    let text = words.text;
-    say(bytes_of(&text, Span { from: 0, to }));
 }

@@ -3,8 +3,8 @@
 use crate::digits::decimal;
 use crate::digits::hexadecimal;
 use crate::digits::index;
-use crate::report::say_words;
-use crate::report::tell;
+use crate::words::say_words;
+use crate::words::tell;
 use errand::say::say;
 use forms::form_of;
 use names::name_of;

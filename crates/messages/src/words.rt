@@ -1,0 +1,28 @@
+// A number, and what it means.
+use crate::digits::decimal;
+use errand::say::say;
+use errand::span::Span;
+use errand::span::bytes_of;
+use wording::Words;
+use wording::words_for;
+
+// The number that a list is refused with, and what it means.
+pub fn refuse(name: &[u8], number: u8) {
+    tell(name, number);
+    say(b"\n");
+}
+
+// NAME: NUMBER, what it means.
+pub fn tell(name: &[u8], number: u8) {
+    say(name);
+    say(b": ");
+    decimal(number as u32);
+    say(b", ");
+    say_words(words_for(number));
+}
+
+pub fn say_words(words: Words) {
+    let to = words.length as usize;
+    let text = words.text;
+    say(bytes_of(&text, Span { from: 0, to }));
+}
