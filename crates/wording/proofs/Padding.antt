@@ -27,8 +27,8 @@ one-more n words i fits h =
 abbrev made : ℕ → List ℕ → Words
 made n t = record { length = n; text = t }
 
-pub all : (words text : List ℕ) (i : ℕ) → i ≡ length words → text ≡ begun 95 words i → made i text ≡ wordsOf words
+pub all : (words text : List ℕ) (i : ℕ) → i ≡ length words → text ≡ begun 127 words i → made i text ≡ wordsOf words
 unfolding wordsOf
 all words text i e h =
-    ap (made i) (h ∙ ap (λ (t : List ℕ). t ++ replicate (95 - i) 0) (ap (λ (k : ℕ). take k words) e ∙ take-length words))
-    ∙ ap (λ (k : ℕ). made k (words ++ replicate (95 - k) 0)) e
+    ap (made i) (h ∙ ap (λ (t : List ℕ). t ++ replicate (127 - i) 0) (ap (λ (k : ℕ). take k words) e ∙ take-length words))
+    ∙ ap (λ (k : ℕ). made k (words ++ replicate (127 - k) 0)) e

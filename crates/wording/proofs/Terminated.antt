@@ -1,4 +1,4 @@
--- Every number's words are a text to C: their first 0 is the one right behind them, within the 95 bytes.
+-- Every number's words are a text to C: their first 0 is the one right behind them, within the 127 bytes.
 use Prim.Native.Nat.{ℕ, _<_}
 use Prim.Native.String.{String}
 use mathlib.Core.Path.{_≡_, refl, sym}
@@ -13,7 +13,7 @@ use Rattle.wording.specs.declared.Words.{Words}
 use Rattle.wording.specs.Wording.{Line, table, others, said, textOf, wordsOf}
 
 abbrev ends : Words → Bool
-ends w = eqb (placeOf 0 (w .text)) (w .length) && ltb (w .length) 95
+ends w = eqb (placeOf 0 (w .text)) (w .length) && ltb (w .length) 127
 
 abbrev good : String → Bool
 good s = ends (wordsOf (bytes s))
@@ -38,13 +38,13 @@ every-line : all-good table ≡ true
 unfolding placeOf wordsOf
 every-line = refl
 
-pub terminated : (n : ℕ) → let w = wordsOf (textOf n) in (placeOf 0 (w .text) ≡ w .length) × (w .length < 95)
+pub terminated : (n : ℕ) → let w = wordsOf (textOf n) in (placeOf 0 (w .text) ≡ w .length) × (w .length < 127)
 unfolding textOf
 terminated n =
     let w = wordsOf (textOf n) in
-    let h = both (eqb (placeOf 0 (w .text)) (w .length)) (ltb (w .length) 95) (each table every-line n) in
-    (eqb-true (placeOf 0 (w .text)) (w .length) (h .0), ltb-true (w .length) 95 (h .1))
+    let h = both (eqb (placeOf 0 (w .text)) (w .length)) (ltb (w .length) 127) (each table every-line n) in
+    (eqb-true (placeOf 0 (w .text)) (w .length) (h .0), ltb-true (w .length) 127 (h .1))
 
-pub short : (n : ℕ) → length (textOf n) < 95
+pub short : (n : ℕ) → length (textOf n) < 127
 unfolding wordsOf
 short n = terminated n .1

@@ -37,7 +37,7 @@ opcodes =
     22 says "the list ends inside the opcode" ∷
     23 says "a variable above 63" ∷
     24 says "a mode, type, condition or count that is not allowed" ∷
-    25 says "a coordinate or offset not -32,768 to 32,767, a radius not 0 to 32,767, a length above 65,536" ∷
+    25 says "a coordinate or offset not -32,768 to 32,767, a radius not 0 to 32,767, a length above 65,536, a dot outside the screen" ∷
     26 says "the divisor is zero" ∷
     27 says "a target that is not allowed" ∷
     28 says "a call with 16 returns stacked, or a repeat with eight open" ∷
@@ -60,9 +60,9 @@ table = calls ++ opcodes
 unfoldable pub textOf : ℕ → List ℕ
 textOf n = bytes (said table n)
 
--- zeros behind the words, 95 bytes in all
+-- zeros behind the words, 127 bytes in all
 unfoldable pub wordsOf : List ℕ → Words
-wordsOf t = record { length = length t; text = t ++ replicate (95 - length t) 0 }
+wordsOf t = record { length = length t; text = t ++ replicate (127 - length t) 0 }
 
 -- what is known, and that no line has the number
 abbrev pub Without : Type 0 → List Line → ℕ → Type 0

@@ -9,7 +9,7 @@ ghost use Rattle.wording.specs.Wording.{calls, opcodes, table, said, Non
 #[repr(C)]
 pub struct Words {
     pub length: u8,
-    pub text: [u8; 95],
+    pub text: [u8; 127],
 }
 
 pub fn words_for(number: u8) -> Words
@@ -49,7 +49,7 @@ fn opcode_words(number: u8) -> Words
         25 => told(
             number,
             25,
-            b"a coordinate or offset not -32,768 to 32,767, a radius not 0 to 32,767, a length above 65,536",
+            b"a coordinate or offset not -32,768 to 32,767, a radius not 0 to 32,767, a length above 65,536, a dot outside the screen",
         ),
         26 => told(number, 26, b"the divisor is zero"),
         27 => told(number, 27, b"a target that is not allowed"),
@@ -87,10 +87,10 @@ fn told(number: u8, line: u8, words: &[u8]) -> Words
 
 // The words, and zeros behind them.
 pub fn padded(words: &[u8]) -> Words
-    requires { ⌜ length (now words) < 95 ⌝ }
+    requires { ⌜ length (now words) < 127 ⌝ }
     ensures { λ r. ⌜ r ≡ wordsOf (now (words .entry)) ⌝ }
 {
-    let mut text = [0; 95];
+    let mut text = [0; 127];
     let mut i = 0;
     while i < words.len() {
         text[i] = words[i];

@@ -10,7 +10,7 @@ use Rattle.wording.proofs.padded.Statement.{statement}
 use Rattle.wording.proofs.padded.Tie as tie
 
 abbrev Inv-loop : tie.InvT-loop
-Inv-loop words text₀ i₀ text i = (i ≤ length words) × (text ≡ begun 95 words i)
+Inv-loop words text₀ i₀ text i = (i ≤ length words) × (text ≡ begun 127 words i)
 
 abbrev μ-loop : tie.MeasureT-loop
 μ-loop words text₀ i₀ text i = length words - i
@@ -35,7 +35,7 @@ loop-again c =
     let l = c .before .before in
     let i = l .loop .i in
     let words = l .before .args .words .now in
-    (omega arith, ap (λ (t : List ℕ). set t i (getD words i 0)) (l .loop .inv .1) ∙ one-more 95 words i (l .before .pre) (c .before .loop-test .taken))
+    (omega arith, ap (λ (t : List ℕ). set t i (getD words i 0)) (l .loop .inv .1) ∙ one-more 127 words i (l .before .pre) (c .before .loop-test .taken))
 
 cast-t10 : tie.Need-cast-t10 Inv-loop μ-loop
 cast-t10 c = search needs
