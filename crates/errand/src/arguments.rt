@@ -1,5 +1,5 @@
-// What the arguments ask for: check LIST; or a form of the picture, and behind it LIST WIDTH HEIGHT [LEFT TOP RIGHT BOTTOM]
-// [BUDGET] or page PAGE WIDTH HEIGHT [BUDGET].
+// What the arguments ask for: check LIST; who LIST WIDTH HEIGHT X Y [LEFT TOP RIGHT BOTTOM] [BUDGET]; or a form of the picture, and
+// behind it [painted] LIST WIDTH HEIGHT [LEFT TOP RIGHT BOTTOM] [BUDGET] or [painted] page PAGE WIDTH HEIGHT [BUDGET].
 use crate::number::is_number;
 use crate::number::number;
 use crate::say::no_number;
@@ -24,9 +24,14 @@ pub struct Window {
     pub bits: u32,
 }
 
-// The picture's form, which argument names the list or the page, the screen's size, a pane, and the budget of each list.
-pub struct Given {
+// The picture's form, and whether every dot has the colour of the opcode that painted it.
+pub struct Look {
     pub form: Form,
+    pub painted: bool,
+}
+
+// Which argument names the list or the page, the screen's size, a pane, and the budget of each list.
+pub struct Given {
     pub first: usize,
     pub width: u32,
     pub height: u32,
@@ -34,11 +39,13 @@ pub struct Given {
     pub budget: u32,
 }
 
-// A list or a page to play, or a list to check, whose name is that argument.
+// A list or a page to play; a list to check, whose name is that argument; a list and the dot, its column and row, whose painter is
+// to be named.
 pub enum Wish {
-    List(Given),
-    Page(Given),
+    List(Given, Look),
+    Page(Given, Look),
     Check(usize),
+    Who(Given, u32, u32),
     Wrong,
 }
 
@@ -48,6 +55,9 @@ pub const BUDGET: u32 = 1_000_000;
 pub fn asked() -> Wish {
     if is(1, b"check") {
         return check_asked(2);
+    }
+    if is(1, b"who") {
+        return who_asked(2);
     }
     if is(1, b"ppm") {
         return behind(2, Form::Ppm);
@@ -74,7 +84,7 @@ fn wrong() -> Wish {
 }
 
 fn is(i: usize, word: &[u8]) -> bool {
-    let mut room = [0u8; 6];
+    let mut room = [0u8; 8];
     let n = os::arg(i, &mut room);
     same(&room[..n], word)
 }
@@ -85,14 +95,35 @@ fn argument(i: usize) -> u32 {
     number(&digits[..n])
 }
 
-// What is asked by the arguments from `first` on.
+// The picture that is asked for by the arguments from `first` on.
 fn behind(first: usize, form: Form) -> Wish
     requires { ⌜ first ≤ 5 ⌝ }
 {
-    if is(first, b"page") {
-        return page_asked(first + 1, form);
+    if is(first, b"painted") {
+        return picture_asked(
+            first + 1,
+            Look {
+                form,
+                painted: true,
+            },
+        );
     }
-    list_asked(first, form)
+    picture_asked(
+        first,
+        Look {
+            form,
+            painted: false,
+        },
+    )
+}
+
+fn picture_asked(first: usize, look: Look) -> Wish
+    requires { ⌜ first ≤ 6 ⌝ }
+{
+    if is(first, b"page") {
+        return page_asked(first + 1, look);
+    }
+    list_asked(first, look)
 }
 
 fn check_asked(first: usize) -> Wish {
@@ -102,43 +133,79 @@ fn check_asked(first: usize) -> Wish {
     wrong()
 }
 
-fn page_asked(first: usize, form: Form) -> Wish
-    requires { ⌜ first ≤ 6 ⌝ }
+fn page_asked(first: usize, look: Look) -> Wish
+    requires { ⌜ first ≤ 7 ⌝ }
 {
     let n = from(first);
     match n {
         3 => page_or_wrong(
             numbers(first, b"width height"),
-            on_whole(form, first, BUDGET),
+            on_whole(first, BUDGET),
+            look,
         ),
         4 => page_or_wrong(
             numbers(first, b"width height budget"),
-            on_whole(form, first, argument(first + 3)),
+            on_whole(first, argument(first + 3)),
+            look,
         ),
         _ => wrong(),
     }
 }
 
-fn list_asked(first: usize, form: Form) -> Wish
-    requires { ⌜ first ≤ 5 ⌝ }
+fn list_asked(first: usize, look: Look) -> Wish
+    requires { ⌜ first ≤ 6 ⌝ }
 {
     let n = from(first);
     match n {
         3 => list_or_wrong(
             numbers(first, b"width height"),
-            on_whole(form, first, BUDGET),
+            on_whole(first, BUDGET),
+            look,
         ),
         4 => list_or_wrong(
             numbers(first, b"width height budget"),
-            on_whole(form, first, argument(first + 3)),
+            on_whole(first, argument(first + 3)),
+            look,
         ),
         7 => list_or_wrong(
             numbers(first, b"width height left top right bottom"),
-            on_part(form, first, BUDGET),
+            on_part(first, first + 3, BUDGET),
+            look,
         ),
         8 => list_or_wrong(
             numbers(first, b"width height left top right bottom budget"),
-            on_part(form, first, argument(first + 7)),
+            on_part(first, first + 3, argument(first + 7)),
+            look,
+        ),
+        _ => wrong(),
+    }
+}
+
+// The dot stands between the size and the pane.
+fn who_asked(first: usize) -> Wish
+    requires { ⌜ first ≤ 2 ⌝ }
+{
+    let n = from(first);
+    match n {
+        5 => who_or_wrong(
+            numbers(first, b"width height x y"),
+            on_whole(first, BUDGET),
+            first + 3,
+        ),
+        6 => who_or_wrong(
+            numbers(first, b"width height x y budget"),
+            on_whole(first, argument(first + 5)),
+            first + 3,
+        ),
+        9 => who_or_wrong(
+            numbers(first, b"width height x y left top right bottom"),
+            on_part(first, first + 5, BUDGET),
+            first + 3,
+        ),
+        10 => who_or_wrong(
+            numbers(first, b"width height x y left top right bottom budget"),
+            on_part(first, first + 5, argument(first + 9)),
+            first + 3,
         ),
         _ => wrong(),
     }
@@ -150,17 +217,28 @@ fn from(first: usize) -> usize {
     if count < first { 0 } else { count - first }
 }
 
-fn page_or_wrong(right: bool, given: Given) -> Wish {
+fn page_or_wrong(right: bool, given: Given, look: Look) -> Wish {
     if right {
-        Wish::Page(given)
+        Wish::Page(given, look)
     } else {
         Wish::Wrong
     }
 }
 
-fn list_or_wrong(right: bool, given: Given) -> Wish {
+fn list_or_wrong(right: bool, given: Given, look: Look) -> Wish {
     if right {
-        Wish::List(given)
+        Wish::List(given, look)
+    } else {
+        Wish::Wrong
+    }
+}
+
+// The dot's column is argument `at`, its row the next.
+fn who_or_wrong(right: bool, given: Given, at: usize) -> Wish
+    requires { ⌜ at ≤ 5 ⌝ }
+{
+    if right {
+        Wish::Who(given, argument(at), argument(at + 1))
     } else {
         Wish::Wrong
     }
@@ -168,7 +246,7 @@ fn list_or_wrong(right: bool, given: Given) -> Wish {
 
 // Whether all arguments behind `first` are numbers; the first that is none gets a line, under its name.
 fn numbers(first: usize, names: &[u8]) -> bool
-    requires { ⌜ first ≤ 6 ⌝ }
+    requires { ⌜ first ≤ 7 ⌝ }
 {
     let count = os::arg_count();
     let mut i = first + 1;
@@ -195,14 +273,13 @@ fn is_number_at(i: usize, name: &[u8]) -> bool {
 }
 
 // The whole screen for a pane.
-fn on_whole(form: Form, first: usize, budget: u32) -> Given
-    requires { ⌜ first ≤ 6 ⌝ }
+fn on_whole(first: usize, budget: u32) -> Given
+    requires { ⌜ first ≤ 7 ⌝ }
 {
     let width = argument(first + 1);
     let height = argument(first + 2);
     let pane = whole(width, height);
     Given {
-        form,
         first,
         width,
         height,
@@ -223,20 +300,20 @@ fn whole(width: u32, height: u32) -> Pane
     }
 }
 
-// The pane that is given behind the size.
-fn on_part(form: Form, first: usize, budget: u32) -> Given
+// The pane whose four numbers begin with argument `at`.
+fn on_part(first: usize, at: usize, budget: u32) -> Given
     requires { ⌜ first ≤ 6 ⌝ }
+    requires { ⌜ at ≤ 9 ⌝ }
 {
     Given {
-        form,
         first,
         width: argument(first + 1),
         height: argument(first + 2),
         pane: Pane {
-            left: argument(first + 3),
-            top: argument(first + 4),
-            right: argument(first + 5),
-            bottom: argument(first + 6),
+            left: argument(at),
+            top: argument(at + 1),
+            right: argument(at + 2),
+            bottom: argument(at + 3),
         },
         budget,
     }
