@@ -3,10 +3,11 @@
 use crate::digits::decimal;
 use crate::digits::hexadecimal;
 use crate::digits::index;
-use crate::words::say_words;
+use crate::words::put_words;
 use crate::words::tell;
 use errand::say::say;
 use forms::form_of;
+use libc::STDERR_FILENO;
 use names::name_of;
 use names::variables_of;
 use numbers::place::VarNo;
@@ -21,7 +22,7 @@ pub fn tell_place(list: &[u16], number: u8, opcode: WordIndex, place: WordIndex)
         23 => tell_operand(list, opcode, place),
         _ => {
             say(b": ");
-            tell_opcode(list, opcode);
+            tell_opcode(STDERR_FILENO, list, opcode);
         }
     }
 }
@@ -50,7 +51,7 @@ fn tell_foreign(name: &[u8], list: &[u16], place: WordIndex) {
         _ => {
             say(name);
             say(b": 21, foreign to lists that surely finish: ");
-            tell_opcode(list, place);
+            tell_opcode(STDERR_FILENO, list, place);
         }
     }
 }
@@ -58,30 +59,30 @@ fn tell_foreign(name: &[u8], list: &[u16], place: WordIndex) {
 // ': word 0366', where an opcode was due.
 fn tell_due(place: WordIndex) {
     say(b": word ");
-    index(place);
+    index(STDERR_FILENO, place);
 }
 
 // ': 2023 at 0000', the word that is no opcode.
 fn tell_word(list: &[u16], place: WordIndex) {
     say(b": ");
-    hexadecimal(word(list, place));
+    hexadecimal(STDERR_FILENO, word(list, place));
     say(b" at ");
-    index(place);
+    index(STDERR_FILENO, place);
 }
 
 // 'CLIPWINV at 0365'
-fn tell_opcode(list: &[u16], opcode: WordIndex) {
-    say_words(name_of(form_at(list, opcode)));
-    say(b" at ");
-    index(opcode);
+pub(crate) fn tell_opcode(to: i32, list: &[u16], opcode: WordIndex) {
+    put_words(to, name_of(form_at(list, opcode)));
+    io::write_all(to, b" at ");
+    index(to, opcode);
 }
 
 // ': word 0366 of CLIPWINV at 0365, V61 to V64'
 fn tell_operand(list: &[u16], opcode: WordIndex, place: WordIndex) {
     say(b": word ");
-    index(place);
+    index(STDERR_FILENO, place);
     say(b" of ");
-    tell_opcode(list, opcode);
+    tell_opcode(STDERR_FILENO, list, opcode);
     say(b", ");
     tell_variables(
         VarNo(word(list, place)),
@@ -92,10 +93,10 @@ fn tell_operand(list: &[u16], opcode: WordIndex, place: WordIndex) {
 // The first of so many variables and the last.
 fn tell_variables(first: VarNo, count: u16) {
     say(b"V");
-    decimal(first.0 as u32);
+    decimal(STDERR_FILENO, first.0 as u32);
     if 1 < count {
         say(b" to V");
-        decimal((first.0 as u32) + (count as u32) - 1);
+        decimal(STDERR_FILENO, (first.0 as u32) + (count as u32) - 1);
     }
 }
 

@@ -3,6 +3,7 @@ use crate::digits::decimal;
 use errand::say::say;
 use errand::span::Span;
 use errand::span::bytes_of;
+use libc::STDERR_FILENO;
 use wording::Words;
 use wording::words_for;
 
@@ -16,13 +17,13 @@ pub fn refuse(name: &[u8], number: u8) {
 pub fn tell(name: &[u8], number: u8) {
     say(name);
     say(b": ");
-    decimal(number as u32);
+    decimal(STDERR_FILENO, number as u32);
     say(b", ");
-    say_words(words_for(number));
+    put_words(STDERR_FILENO, words_for(number));
 }
 
-pub fn say_words(words: Words) {
-    let to = words.length as usize;
+pub(crate) fn put_words(to: i32, words: Words) {
+    let end = words.length as usize;
     let text = words.text;
-    say(bytes_of(&text, Span { from: 0, to }));
+    io::write_all(to, bytes_of(&text, Span { from: 0, to: end }));
 }

@@ -2,8 +2,8 @@
 ghost use mathlib.Core.Path.{_≡_};
 ghost use Rattle.play.specs.Ends.{noneYet, withNumber, endOf};
 
-// There is a picture, or the list surely finishes; there is none, or it may not; the arguments are wrong; there is a picture, but a list
-// was stopped.
+// There is a picture, the list surely finishes, or it is told who painted the dot; there is none, it may not, or the question is
+// refused; the arguments are wrong; there is a picture, but a list was stopped.
 pub enum End {
     Done,
     Nothing,

@@ -1,16 +1,18 @@
-// Plays lists on a screen of zeros, or checks one: the picture, or how many steps a list takes, goes to standard output, a line
-// for each list that is played or refused to standard error, and how it ended to descriptor 3.
+// Plays lists on a screen of zeros, checks one, or asks who painted a dot: the picture, how many steps a list takes, or who it was
+// goes to standard output, a line for each list that is played or refused to standard error, and how it ended to descriptor 3.
 mod check; // whether a list surely finishes
 mod end; // how it ended
 mod page; // the lists of a page
 mod report; // a line for each list
 mod slices; // runs the lists of a page in turn
+mod writer; // who painted a dot
 
 use check::check_list;
 use end::End;
 use end::end_of;
 use end::tell;
 use errand::arguments::Given;
+use errand::arguments::Look;
 use errand::arguments::Wish;
 use errand::arguments::asked;
 use errand::file::Read;
@@ -26,6 +28,7 @@ use page::page_of;
 use page::with_list;
 use report::report;
 use slices::rounds;
+use writer::name_writer;
 ghost use mathlib.Core.Path.{_≡_};
 ghost use Prim.Native.Nat.{_*_};
 
@@ -43,14 +46,15 @@ fn main() {
 fn play(words: &mut [u16; WORDS]) -> End {
     let form = asked();
     match form {
-        Wish::List(given) => play_list(given, words),
-        Wish::Page(given) => play_page(given, words),
+        Wish::List(given, look) => play_list(given, look, words),
+        Wish::Page(given, look) => play_page(given, look, words),
         Wish::Check(at) => check_list(at, words),
+        Wish::Who(given, x, y) => name_writer(given, x, y, words),
         Wish::Wrong => End::Wrong,
     }
 }
 
-fn play_list(given: Given, words: &mut [u16]) -> End {
+fn play_list(given: Given, look: Look, words: &mut [u16]) -> End {
     let mut room = io::buffer();
     let n = os::arg(given.first, &mut room);
     let made = fresh(given);
@@ -62,10 +66,10 @@ fn play_list(given: Given, words: &mut [u16]) -> End {
     let name = Span { from: 0, to: n };
     let path = bytes_of(&room, name);
     let page = with_list(empty(), path, path, name, made.env, given.budget, words);
-    show(page, &room, given, words)
+    show(page, &room, given, look, words)
 }
 
-fn play_page(given: Given, words: &mut [u16]) -> End {
+fn play_page(given: Given, look: Look, words: &mut [u16]) -> End {
     let made = fresh(given);
     let number = made.number;
     if number != 0 {
@@ -81,36 +85,44 @@ fn play_page(given: Given, words: &mut [u16]) -> End {
     };
     let lines = bytes_of(&text, Span { from: 0, to: end });
     let page = page_of(lines, path, given, words);
-    show(page, lines, given, words)
+    show(page, lines, given, look, words)
 }
 
 // Draws a page of which no list was refused.
-fn show(page: Page, names: &[u8], given: Given, words: &[u16]) -> End {
+fn show(page: Page, names: &[u8], given: Given, look: Look, words: &[u16]) -> End {
     if !page.sound {
         return End::Nothing;
     }
     let mut room = [0u8; SCREEN];
-    draw(page, names, given, words, &mut room)
+    draw(page, names, given, look, words, &mut room)
 }
 
 // A callee that takes a reference to an array asks for no proof of its length.
-fn draw(page: Page, names: &[u8], given: Given, words: &[u16], room: &mut [u8; SCREEN]) -> End {
-    run(page, names, given, words, room)
+fn draw(
+    page: Page,
+    names: &[u8],
+    given: Given,
+    look: Look,
+    words: &[u16],
+    room: &mut [u8; SCREEN],
+) -> End {
+    run(page, names, given, look, words, room)
 }
 
 // Runs the lists on as much of the room as the screen is, tells what each answers, and writes the picture where one has
 // ended or still runs.
-fn run(page: Page, names: &[u8], given: Given, words: &[u16], room: &mut [u8]) -> End {
+fn run(page: Page, names: &[u8], given: Given, look: Look, words: &[u16], room: &mut [u8]) -> End {
     let dots = area(given.width, given.height);
     if room.len() < dots {
         return End::Nothing;
     }
     let screen = &mut room[0..dots];
-    let last = rounds(words, screen, page);
+    let last = rounds(words, screen, page, look.painted);
+    let form = look.form;
     let end = end_of(report(names, words, last));
     match end {
         End::Nothing => end,
-        _ => written(write(screen, given), end),
+        _ => written(write(screen, given.width, given.height, form), end),
     }
 }
 

@@ -8,6 +8,7 @@ use crate::page::Playing;
 use errand::say::say;
 use errand::span::bytes_of;
 use errand::span::words_of;
+use libc::STDERR_FILENO;
 use messages::digits::decimal;
 use messages::digits::index;
 use messages::place::tell_place;
@@ -41,10 +42,10 @@ fn line(name: &[u8], list: &[u16], playing: Playing) {
         tell_place(list, number, counter, playing.env.registers.place);
     }
     say(b": steps ");
-    decimal(playing.steps);
+    decimal(STDERR_FILENO, playing.steps);
     say(b", counter ");
-    index(counter);
+    index(STDERR_FILENO, counter);
     say(b" (");
-    decimal(counter.0);
+    decimal(STDERR_FILENO, counter.0);
     say(b")\n");
 }

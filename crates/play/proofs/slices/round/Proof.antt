@@ -7,10 +7,10 @@ use Rattle.play.proofs.slices.round.Statement.{statement}
 use Rattle.play.proofs.slices.round.Tie as tie
 
 abbrev Inv-loop : tie.InvT-loop
-Inv-loop words screen₀ p₀ k₀ screen p k = (k ≤ 8) × (length screen ≡ length screen₀)
+Inv-loop words screen₀ painted p₀ k₀ screen p k = (k ≤ 8) × (length screen ≡ length screen₀)
 
 abbrev μ-loop : tie.MeasureT-loop
-μ-loop words screen₀ p₀ k₀ screen p k = 8 - k
+μ-loop words screen₀ painted p₀ k₀ screen p k = 8 - k
 
 loop-holds : tie.Need-loop-holds Inv-loop μ-loop
 loop-holds c = search needs
@@ -30,8 +30,8 @@ element-copy-out-playing c = search needs
 slice-requires : tie.Need-slice-requires Inv-loop μ-loop
 slice-requires c κs = search needs
 
-mul-t8 : tie.Need-mul-t8 Inv-loop μ-loop
-mul-t8 c = search needs
+mul-t9 : tie.Need-mul-t9 Inv-loop μ-loop
+mul-t9 c = search needs
 
 element-set-from-p : tie.Need-element-set-from-p Inv-loop μ-loop
 element-set-from-p c = search needs
@@ -63,7 +63,7 @@ round-spec =
     mul-playing
     element-copy-out-playing
     slice-requires
-    mul-t8
+    mul-t9
     element-set-from-p
     add-k
     loop-less

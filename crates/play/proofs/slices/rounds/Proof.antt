@@ -7,10 +7,10 @@ use Rattle.play.proofs.slices.rounds.Statement.{statement}
 use Rattle.play.proofs.slices.rounds.Tie as tie
 
 abbrev Inv-loop : tie.InvT-loop
-Inv-loop words screen₀ p₀ n₀ screen p n = (n ≤ 1000) × (length screen ≡ length screen₀)
+Inv-loop words screen₀ painted p₀ n₀ screen p n = (n ≤ 1000) × (length screen ≡ length screen₀)
 
 abbrev μ-loop : tie.MeasureT-loop
-μ-loop words screen₀ p₀ n₀ screen p n = 1000 - n
+μ-loop words screen₀ painted p₀ n₀ screen p n = 1000 - n
 
 loop-holds : tie.Need-loop-holds Inv-loop μ-loop
 loop-holds c = search needs
