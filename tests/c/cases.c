@@ -6,6 +6,7 @@
 
 #include "libc.h"
 #include "ovenlute.h"
+#include "tally.h"
 
 enum { WIDTH = 5, HEIGHT = 3, BYTES = WIDTH * HEIGHT, MOST_WORDS = 24, MOST_CHANGES = 6 };
 
@@ -173,19 +174,6 @@ static const struct test tests[] = {
       { { COLOUR, 0, 7 }, { COUNTER, 0, 7 }, { STATE, 0, 1 } }, "....." "....." "....7" },
     { "return with none stacked", 1, { 0x00B9 }, 100, WHOLE, 29, 0, { { STATE, 0, 29 } }, BLANK },
 };
-
-static int failed;
-static int checked;
-
-/* One thing checked; what is wrong, or NULL. */
-static void check(const char *name, const char *wrong)
-{
-    checked++;
-    if (wrong == NULL)
-        return;
-    failed++;
-    printf("case %s: %s\n", name, wrong);
-}
 
 /* ---- environments ---- */
 

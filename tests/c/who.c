@@ -6,6 +6,7 @@
 
 #include "libc.h"
 #include "ovenlute.h"
+#include "tally.h"
 
 enum { WIDTH = 5, HEIGHT = 3, BYTES = WIDTH * HEIGHT, MOST_WORDS = 24, MOST_STEPS = 9 };
 
@@ -113,19 +114,6 @@ static const struct test tests[] = {
     { "PIXELV of x = 65,538", 9, { 0x0066, 2, 1, 0, 0x0065, 1, 1, 0x009F, 0 }, 100, WHOLE, NOBODY, { { 0, 0 } } },
     { "an empty list", 0, { 0 }, 100, WHOLE, NOBODY, { { 0, 0 } } },
 };
-
-static int failed;
-static int checked;
-
-/* One thing checked; what is wrong, or NULL. */
-static void check(const char *name, const char *wrong)
-{
-    checked++;
-    if (wrong == NULL)
-        return;
-    failed++;
-    printf("case %s: %s\n", name, wrong);
-}
 
 static const char *wrong_writer(struct ovenlute_writer writer, struct ovenlute_writer wanted)
 {
