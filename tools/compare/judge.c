@@ -1,7 +1,7 @@
 #include "judge.h"
+#include "asked.h"
 #include "libc.h"
 #include "profile.h"
-#include "asked.h"
 
 enum { GUARD = 64, GUARD_BYTE = 0xA5 };
 

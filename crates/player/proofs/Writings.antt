@@ -1,16 +1,18 @@
 -- T-08 of any player: a loop that keeps the last writer of a dot ends with the run's; and what is named is the last step that wrote the dot, whose colour is on the screen.
 use Prim.Native.Nat.{ℕ, zero, suc, _+_, _-_, _<_, _≤_}
-use mathlib.Core.Path.{_≡_, refl, sym, ap, ap₂, _∙_, subst}
+use mathlib.Core.Path.{_≡_, refl, sym, ap, ap₂, _∙_}
 use mathlib.Core.Bool.{Bool, true, false, cond}
 use mathlib.Core.List.{List, [], _∷_, _++_}
 use native.Mathlib.Omega.{arith}
 use native.Mathlib.Numerals.{add-one}
-use lib.IntN.{ℤ, pos}
+use lib.Dec.{T}
 use lib.ListN.{length, getD}
 use Rattle.raster.specs.declared.dots.Dot.{Dot}
 use Rattle.raster.specs.declared.frame.Bounds.{Bounds}
 use Rattle.raster.specs.Paint.{columnOf, rowOf, hit}
-use Rattle.raster.proofs.Paintings.{byte-paint}
+use Rattle.raster.specs.Frame.{inPane, drawable}
+use Rattle.raster.proofs.Tests.{left, T-false}
+use Rattle.raster.proofs.Paintings.{byte-paint, drawable-pixel}
 use Rattle.player.specs.declared.State.{State}
 use Rattle.player.specs.declared.State.the-variants.{Running, Ended, Stopped}
 use Rattle.player.specs.Painting.{Painting, painted, drawn}
@@ -134,6 +136,21 @@ module _ {E : Type 0} (d : Dot) where
   unfolding writer
   named k [] = tt
   named k (o ∷ os) = named-first k o os (writer (suc k) os d) (writes (o .painting) d) refl (named (suc k) os)
+
+  -- where no opcode writes it, nobody is named
+  pub nobody-wrote : (k : ℕ) (os : List (Done E)) → Unwritten os → writer k os d ≡ nobody
+  unfolding writer
+  nobody-wrote k [] h = refl
+  nobody-wrote k (o ∷ os) h = ap₂ or-else (nobody-wrote (suc k) os (h .1)) (ap (λ (t : Bool). cond t (step k o) nobody) (h .0))
+
+  -- none does outside the pane
+  pub outside : (b : Bounds) → (T (inPane b (d .x) (d .y)) → ⊥) → (os : List (Done E)) → Inside b (paintings os) → Unwritten os
+  outside b n [] h = tt
+  outside b n (o ∷ os) h =
+      let p = o .painting in
+      let x = d .x in
+      let y = d .y in
+      (T-false (writes p d) (λ t. n (rw (h .0) at (drawable-pixel (p .frame) x y (left (drawable (p .frame) x y) (p .shape x y) t) .1))), outside b n os (h .1))
 
 -- ---- and the screen: byte i, which shows the dot
 abbrev pub shownAt : Bounds → ℕ → Dot

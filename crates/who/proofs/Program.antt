@@ -1,13 +1,15 @@
 -- T-08 of the program itself: of any answer that kept the promise, beside any run of the same list, environment and budget that kept its own.
-use Prim.Native.Nat.{ℕ, zero, suc, _+_, _*_, _<_}
+use Prim.Native.Nat.{ℕ, _*_, _<_}
 use mathlib.Core.Path.{_≡_, refl, sym, ap, _∙_, subst, subst⁻¹}
 use mathlib.Core.List.{List}
 use native.Mathlib.Omega.{arith}
 use native.Mathlib.Nat.{sub-zero}
+use lib.Dec.{T}
 use lib.ListN.{length, getD}
 use Rattle.raster.specs.declared.dots.Dot.{Dot}
+use Rattle.raster.specs.Frame.{inPane}
 use Rattle.player.specs.declared.State.the-variants.{Running}
-use Rattle.player.specs.Run.{Answer, Done, paintings, runs, trace}
+use Rattle.player.specs.Run.{Answer, Done, paintings, trace}
 use Rattle.player.specs.Painting.{drawn}
 use Rattle.player.specs.Hosted.{Request}
 use Rattle.player.specs.Writing.{nobody, step, writer, told}
@@ -15,16 +17,16 @@ use Rattle.player.specs.Writing as Writing
 use Rattle.player.proofs.Runs.{is-traced}
 use Rattle.player.proofs.Hosts.{trace-inside}
 use Rattle.player.proofs.Doors.{run-whole}
-use Rattle.player.proofs.Writings.{Unwritten, LastWritten, Named, named, shownAt, coloured, rested}
+use Rattle.player.proofs.Writings.{Unwritten, LastWritten, Named, named, shownAt, coloured, rested, nobody-wrote, outside}
 use Rattle.rules.specs.declared.environment.Env as Held
 use Rattle.rules.specs.declared.answer.Answer as Came
 use Rattle.rules.specs.Environment.{Env, held}
 use Rattle.rules.specs.Step.{afgis}
-use Rattle.rules.specs.Door.{machine, whole}
+use Rattle.rules.specs.Door.{machine}
 use Rattle.rules.specs.Door as Door
 use Rattle.rules.proofs.Alone.{keeps}
 use Rattle.who.specs.declared.Writer.{Writer}
-use Rattle.who.specs.Who.{saying, naming, found, who, Promise}
+use Rattle.who.specs.Who.{saying, naming, Promise}
 use Rattle.who.proofs.Numbers.{Told, all-told}
 
 module _ (w : List ℕ) (e : Held.Env) (budget : ℕ) (d : Dot) (r : Writer) (kept : Promise w e budget d r) (ok : r .number ≡ 0) where
@@ -57,6 +59,12 @@ module _ (w : List ℕ) (e : Held.Env) (budget : ℕ) (d : Dot) (r : Writer) (ke
   -- an environment that is ended or stopped carries nothing out: no step
   pub at-rest : (held e .state ≡ Running → ⊥) → r ≡ saying 0
   at-rest n = is-found ∙ sym (rested naming (afgis w) d budget 0 (held e) (saying 0) _ (rw sub-zero) n)
+
+  -- outside the pane nobody writes
+  pub off-the-pane : (T (inPane (e .bounds) (d .x) (d .y)) → ⊥) → r ≡ saying 0
+  off-the-pane n =
+      is-found
+      ∙ ap (told naming (saying 0)) (nobody-wrote d 1 steps (outside d (e .bounds) n steps (trace-inside (λ x. x .bounds) (afgis w) (keeps w) budget (held e))))
 
   -- ---- the screen: the run of this very list, environment and budget on a screen of its size leaves t, and byte i shows the dot
   module _ (s : List ℕ) (size : length s ≡ e .bounds .width * e .bounds .height) (a : Came.Answer) (t : List ℕ) (ran : Door.Promise w s e budget a t)

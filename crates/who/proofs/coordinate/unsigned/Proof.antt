@@ -1,13 +1,12 @@
 -- `unsigned`: a number that is not negative is itself, and no cast loses it.
 use mathlib.Core.Path.{_≡_, refl, sym, ap, _∙_, subst, subst⁻¹}
 use mathlib.Core.Bool.{Bool, true, false}
-use Prim.Native.Nat.{_<_, _^_}
 use native.Mathlib.Omega.{arith}
 use lib.IntN.{ℤ, pos, negsuc, natAbs}
 use lib.Signed.{leZ, nonNeg, pos-natAbs}
 use lib.Dec.{T}
 use mir.Syntax.{w32}
-use mir.Val.{Fits, SFits, toZ, ofZ}
+use mir.Val.{Fits, SFits}
 use mir.Facts.{toZ-ofZ}
 use Rattle.who.proofs.coordinate.unsigned.Statement.{statement}
 use Rattle.who.proofs.coordinate.unsigned.Tie as tie

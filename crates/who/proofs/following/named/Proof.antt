@@ -1,8 +1,6 @@
 -- `named`: by the one question whether the painting contains the dot.
-use mathlib.Core.Path.{_≡_, refl, sym, ap, _∙_}
-use mathlib.Core.Bool.{Bool, true, false, cond}
+use mathlib.Core.Path.{sym, _∙_}
 use borrow.Author.Needs.{needs}
-use Rattle.who.specs.declared.Writer.{Writer}
 use Rattle.who.proofs.following.named.Statement.{statement}
 use Rattle.who.proofs.following.named.Tie as tie
 
