@@ -1,11 +1,14 @@
 // Whether what a brush paints contains a dot, in constant time for every shape.
+mod line; // a line, also a dashed one
+mod circle; // a circle, filled or its outline
+
+use crate::circle::on_disc;
+use crate::circle::on_outline;
+use crate::line::on_dashed;
+use crate::line::on_line;
 use brush::Brush;
 use brush::one;
 use brush::other;
-use circle::on_disc;
-use circle::on_outline;
-use line::on_dashed;
-use line::on_line;
 use raster::biased::BIAS;
 use raster::biased::Spot;
 use raster::dots::Dot;
@@ -19,9 +22,6 @@ ghost use Rattle.raster.specs.Shapes.{dot, movedBy};
 ghost use Rattle.raster.specs.Frame.{drawable, Word, Sane};
 ghost use Rattle.raster.specs.Biased.{dotOf};
 ghost use Rattle.brush.specs.Brush.{shapeOf, Near};
-
-mod line; // a line, also a dashed one
-mod circle; // a circle, filled or its outline
 
 fn on_dot(p: Spot, column: u32, row: u32) -> bool
     requires { ⌜ (column < 65536) × (row < 65536) ⌝ }

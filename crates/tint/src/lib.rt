@@ -1,4 +1,8 @@
 // A list is run with every opcode painting in a tint, so that a picture shows who painted what.
+mod tint; // the tint of an opcode, and painting in it
+mod turns; // as many as the budget allows
+
+use crate::turns::tinted_turns;
 use act::registers::cells_of;
 use act::registers::gathered;
 use act::registers::points_of;
@@ -12,11 +16,7 @@ use rules::environment::state_of;
 use run::door::door;
 use run::run::refused;
 use run::run::verdict_of;
-use turns::tinted_turns;
 ghost use Rattle.tint.specs.Tint.{Promise};
-
-mod tint; // the tint of an opcode, and painting in it
-mod turns; // as many as the budget allows
 
 // As `run::run::run`, with other colours on the screen.
 pub fn tinted(list: &[u16], screen: &mut [u8], env: Env, budget: u32) -> Answer

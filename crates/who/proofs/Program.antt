@@ -1,16 +1,15 @@
 -- T-08 of the program itself: of any answer that kept the promise, beside any run of the same list, environment and budget that kept its own.
-use Prim.Native.Nat.{ℕ, _*_, _<_}
+use Prim.Native.Nat.{ℕ, _+_, _*_, _<_, _≤_}
 use mathlib.Core.Path.{_≡_, refl, sym, ap, _∙_, subst, subst⁻¹}
-use mathlib.Core.List.{List}
+use mathlib.Core.List.{List, _∷_}
 use native.Mathlib.Omega.{arith}
 use native.Mathlib.Nat.{sub-zero}
 use lib.Dec.{T}
-use lib.ListN.{length, getD}
+use lib.ListN.{length, getD, length-append}
 use Rattle.raster.specs.declared.dots.Dot.{Dot}
 use Rattle.raster.specs.Frame.{inPane}
 use Rattle.player.specs.declared.State.the-variants.{Running}
-use Rattle.player.specs.Run.{Answer, Done, paintings, trace}
-use Rattle.player.specs.Painting.{drawn}
+use Rattle.player.specs.Run.{Answer, Done, runs, trace}
 use Rattle.player.specs.Hosted.{Request}
 use Rattle.player.specs.Writing.{nobody, step, writer, told}
 use Rattle.player.specs.Writing as Writing
@@ -22,7 +21,7 @@ use Rattle.rules.specs.declared.environment.Env as Held
 use Rattle.rules.specs.declared.answer.Answer as Came
 use Rattle.rules.specs.Environment.{Env, held}
 use Rattle.rules.specs.Step.{afgis}
-use Rattle.rules.specs.Door.{machine}
+use Rattle.rules.specs.Door.{machine, said}
 use Rattle.rules.specs.Door as Door
 use Rattle.rules.proofs.Alone.{keeps}
 use Rattle.who.specs.declared.Writer.{Writer}
@@ -66,35 +65,46 @@ module _ (w : List ℕ) (e : Held.Env) (budget : ℕ) (d : Dot) (r : Writer) (ke
       is-found
       ∙ ap (told naming (saying 0)) (nobody-wrote d 1 steps (outside d (e .bounds) n steps (trace-inside (λ x. x .bounds) (afgis w) (keeps w) budget (held e))))
 
-  -- ---- the screen: the run of this very list, environment and budget on a screen of its size leaves t, and byte i shows the dot
-  module _ (s : List ℕ) (size : length s ≡ e .bounds .width * e .bounds .height) (a : Came.Answer) (t : List ℕ) (ran : Door.Promise w s e budget a t)
-      (i : ℕ) (inside : i < length s) (shows : d ≡ shownAt (e .bounds) i) where
+  -- ---- beside it, the run of this very list, environment and budget on a screen of its size, which leaves t
+  module _ (s : List ℕ) (size : length s ≡ e .bounds .width * e .bounds .height) (a : Came.Answer) (t : List ℕ) (ran : Door.Promise w s e budget a t) where
     abbrev q : Request (List ℕ)
     q = record { list = w; budget = budget }
 
     entered : Door.door q (held e) (length s) ≡ 0
     entered = ap (Door.door q (held e)) size ∙ all .entered
 
-    left : t ≡ drawn (paintings steps) s
-    left =
-        ap (λ (x : Answer Env). x .screen) (ran ∙ sym (run-whole machine q (held e) s 0 (sym entered) refl))
-        ∙ is-traced (afgis w) budget (held e) s 0 .screen
+    says : said a t ≡ runs (afgis w) budget (held e) s 0
+    says = ran ∙ sym (run-whole machine q (held e) s 0 (sym entered) refl)
 
-    byte : getD t i 0 ≡ told (λ j from c. c) (getD s i 0) last
-    byte =
-        ap (λ (x : List ℕ). getD x i 0) left
-        ∙ (coloured (e .bounds) i 1 steps (trace-inside (λ x. x .bounds) (afgis w) (keeps w) budget (held e)) s inside
-        ∙ ap (λ (p : Dot). told (λ j from c. c) (getD s i 0) (writer 1 steps p)) (sym shows))
-
-    -- it has the colour that is told, whatever the screen was before, or is as it was
-    pub data Shows : Type 0 where
-      as-it-was : r .step ≡ 0 → getD t i 0 ≡ getD s i 0 → Shows
-      painted : (r .step ≡ 0 → ⊥) → getD t i 0 ≡ r .colour → Shows
-
-    pub on-the-screen : Shows
-    on-the-screen = by last (named d 1 steps) is-found byte
+    -- the step that is named is one of those that it counts
+    pub within-the-run : r .step ≤ a .steps
+    within-the-run = by names
       where
-        by : (l : Writing.Writer Env) → Named d 1 steps l → r ≡ told naming (saying 0) l → getD t i 0 ≡ told (λ j from c. c) (getD s i 0) l → Shows
-        by nobody h is b = as-it-was (ap (λ (x : Writer). x .step) is) b
-        by (step k o) h is b =
-            painted (λ z. omega (arith, z, h .number, ap (λ (x : Writer). x .step) is)) (b ∙ sym (ap (λ (x : Writer). x .colour) is))
+        counted : a .steps ≡ 0 + length steps
+        counted = ap (λ (x : Answer Env). x .steps) says ∙ is-traced (afgis w) budget (held e) s 0 .steps
+
+        by : Names → r .step ≤ a .steps
+        by (no-step z h) = omega (arith, z)
+        by (the-step o h i c) = omega (arith, counted, h .number, ap length (h .all) ∙ length-append (h .earlier) (o ∷ h .later))
+
+    -- byte i shows the dot
+    module _ (i : ℕ) (inside : i < length s) (shows : d ≡ shownAt (e .bounds) i) where
+      byte : getD t i 0 ≡ told (λ j from c. c) (getD s i 0) last
+      byte =
+          ap (λ (x : Answer Env). getD (x .screen) i 0) says
+          ∙ (ap (λ (x : List ℕ). getD x i 0) (is-traced (afgis w) budget (held e) s 0 .screen)
+          ∙ (coloured (e .bounds) i 1 steps (trace-inside (λ x. x .bounds) (afgis w) (keeps w) budget (held e)) s inside
+          ∙ ap (λ (p : Dot). told (λ j from c. c) (getD s i 0) (writer 1 steps p)) (sym shows)))
+
+      -- it has the colour that is told, whatever the screen was before, or is as it was
+      pub data Shows : Type 0 where
+        as-it-was : r .step ≡ 0 → getD t i 0 ≡ getD s i 0 → Shows
+        painted : (r .step ≡ 0 → ⊥) → getD t i 0 ≡ r .colour → Shows
+
+      pub on-the-screen : Shows
+      on-the-screen = by last (named d 1 steps) is-found byte
+        where
+          by : (l : Writing.Writer Env) → Named d 1 steps l → r ≡ told naming (saying 0) l → getD t i 0 ≡ told (λ j from c. c) (getD s i 0) l → Shows
+          by nobody h is b = as-it-was (ap (λ (x : Writer). x .step) is) b
+          by (step k o) h is b =
+              painted (λ z. omega (arith, z, h .number, ap (λ (x : Writer). x .step) is)) (b ∙ sym (ap (λ (x : Writer). x .colour) is))
