@@ -28,7 +28,8 @@ use Rattle.player.proofs.Turning.{one-less, none-left}
 module _ {E A : Type 0} (tell : ℕ → E → ℕ → A) where
   told-else : (a : A) (w v : Writer E) → told tell a (or-else w v) ≡ told tell (told tell a v) w
   told-else a nobody v = refl
-  told-else a (step k o) v = refl
+  told-else a (step k o) nobody = refl
+  told-else a (step k o) (step j p) = refl
 
   told-own : (a : A) (t : Bool) (k : ℕ) (o : Done E) → told tell a (cond t (step k o) nobody) ≡ cond t (tell k (o .from) (o .painting .colour)) a
   told-own a true k o = refl

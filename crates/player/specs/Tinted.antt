@@ -11,6 +11,6 @@ abbrev pub outcomeIn : {E : Type 0} → ℕ → Outcome E → Outcome E
 outcomeIn c (done e' p) = done e' (inColour c p)
 outcomeIn c (refused v) = refused v
 
--- every opcode in the colour that the environment before it has
+-- every opcode in the colour that `tint` tells of the environment before it
 abbrev pub tinted : {E : Type 0} → (E → ℕ) → Player E → Player E
 tinted tint P = record { state = P .state; stop = P .stop; step = λ e. outcomeIn (tint e) (P .step e) }
