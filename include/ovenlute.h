@@ -182,8 +182,8 @@ struct ovenlute_checked ovenlute_check(const uint16_t *list, size_t words);
      budget 0: nothing is carried out.
    - Where a step is named, the dot's byte after that run is its colour, whatever the screen was before; where none is, the byte is
      as it was.
-   A question takes as long as the run's opcodes without their painting, and a little more for each that paints, however many dots
-   that are: none is walked. With length 0 the list may be NULL. */
+   A question takes a run's steps, and a constant more for each opcode that paints, however many dots that are: none is walked. With
+   length 0 the list may be NULL. */
 struct ovenlute_writer ovenlute_who(const uint16_t *list, size_t words, struct ovenlute_env env, uint32_t budget,
                                     struct ovenlute_dot dot);
 
