@@ -18,12 +18,12 @@ use Rattle.rules.specs.Op as Op
 use Rattle.rules.specs.Environment.{Env, start, firsts, goto, stacked}
 use Rattle.rules.specs.Opcodes.{calls, rule}
 use Rattle.rules.proofs.StackLaws.{length-firsts, push, pop, each}
-use Rattle.act.specs.Lent.{celled, returns, look, Recelled, Deepened}
-use Rattle.act.specs.Shown.{does}
-use Rattle.act.specs.Contracts.{HaltsHere, Stacks, Stacked}
-use Rattle.act.proofs.Acting.{halts, paints-nothing}
-use Rattle.act.proofs.Handing.{settled}
-use Rattle.act.proofs.StackLaws.{return-at, return-fits, return-set, nesting-stays, repeats-stay}
+use Rattle.lent.specs.Lent.{celled, returns, look, Recelled, Deepened}
+use Rattle.lent.specs.Shown.{does}
+use Rattle.lent.specs.Contracts.{HaltsHere, Stacks, Stacked}
+use Rattle.lent.proofs.Acting.{halts, paints-nothing}
+use Rattle.lent.proofs.Handing.{settled}
+use Rattle.lent.proofs.StackLaws.{return-at, return-fits, return-set, nesting-stays, repeats-stay}
 
 -- the depth was set to n, and then the counter to i
 then-to : (n : ℕ) {i : WordIndex} (cs : List ℕ) {cs' cs'' : List ℕ} → Deepened n cs cs' → Recelled (goto i) cs' cs'' → (b : Bounds) (ps : List ℤ) (vs st : List ℕ)

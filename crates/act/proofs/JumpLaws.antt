@@ -15,12 +15,12 @@ use Rattle.rules.specs.Environment.{Env, goto}
 use Rattle.rules.specs.Opcodes.{Rule, jumps}
 use Rattle.act.specs.declared.flow.Condition.{Condition}
 use Rattle.act.specs.declared.flow.Condition.the-variants.{NotAllowed, Met, Unmet}
-use Rattle.act.specs.Lent.{celled, look, Recelled}
-use Rattle.act.specs.Shown.{does}
+use Rattle.lent.specs.Lent.{celled, look, Recelled}
+use Rattle.lent.specs.Shown.{does}
 use Rattle.act.specs.Conditions.{meeting, conditionOf}
-use Rattle.act.specs.Contracts.{HaltsHere, Goes}
-use Rattle.act.proofs.Acting.{halts, paints-nothing}
-use Rattle.act.proofs.Handing.{settled}
+use Rattle.lent.specs.Contracts.{HaltsHere, Goes}
+use Rattle.lent.proofs.Acting.{halts, paints-nothing}
+use Rattle.lent.proofs.Handing.{settled}
 
 -- what an answer of condition k on x and y says of the rule's two tests
 abbrev Judged : Condition → ℕ → ℕ → ℕ → Type 0

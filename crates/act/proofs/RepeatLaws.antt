@@ -17,12 +17,12 @@ use Rattle.rules.specs.Op as Op
 use Rattle.rules.specs.Environment.{repeat, over, firsts, goto}
 use Rattle.rules.specs.Opcodes.{rule, countable}
 use Rattle.rules.proofs.StackLaws.{length-firsts, push, pop, each}
-use Rattle.act.specs.Lent.{nesting, repeats, Recelled, Nested}
-use Rattle.act.specs.Shown.{does}
-use Rattle.act.specs.Contracts.{HaltsHere, Stacks, Stacked}
-use Rattle.act.proofs.Acting.{halts, paints-nothing}
-use Rattle.act.proofs.Handing.{settled}
-use Rattle.act.proofs.StackLaws.{repeat-fits}
+use Rattle.lent.specs.Lent.{nesting, repeats, Recelled, Nested}
+use Rattle.lent.specs.Shown.{does}
+use Rattle.lent.specs.Contracts.{HaltsHere, Stacks, Stacked}
+use Rattle.lent.proofs.Acting.{halts, paints-nothing}
+use Rattle.lent.proofs.Handing.{settled}
+use Rattle.lent.proofs.StackLaws.{repeat-fits}
 
 -- ---- a count of passes
 pub none : (k : ℕ) → k ≡ 0 → countable k ≡ false

@@ -18,9 +18,9 @@ use Rattle.rules.specs.Step.{carried}
 use Rattle.act.specs.declared.values.Calculation.{Calculation}
 use Rattle.act.specs.declared.values.Calculation.the-variants.{Sum, And, Or, Product, OneMore, OneLess}
 use Rattle.act.specs.Calculations.{calculated, opOf}
-use Rattle.act.specs.Shown.{does}
-use Rattle.act.specs.Contracts.{HaltsHere, Sets}
-use Rattle.act.proofs.Acting.{halts}
+use Rattle.lent.specs.Shown.{does}
+use Rattle.lent.specs.Contracts.{HaltsHere, Sets}
+use Rattle.lent.proofs.Acting.{halts}
 
 -- v in Vd, unless the divisor is zero
 abbrev divides : ℕ → Operands → Env → Rule

@@ -1,17 +1,17 @@
 // Jumps, calls, returns and the end of the list.
-use crate::registers::Cells;
-use crate::registers::depth;
-use crate::registers::finish;
-use crate::registers::first;
-use crate::registers::refuse;
-use crate::registers::second;
-use crate::registers::set_depth;
-use crate::registers::set_ended;
-use crate::registers::stop;
-use crate::stack::Stack;
-use crate::stack::stack_at;
-use crate::stack::stacked_at;
 use fetch::source::Taken;
+use lent::registers::Cells;
+use lent::registers::depth;
+use lent::registers::finish;
+use lent::registers::first;
+use lent::registers::refuse;
+use lent::registers::second;
+use lent::registers::set_depth;
+use lent::registers::set_ended;
+use lent::registers::stop;
+use lent::stack::Stack;
+use lent::stack::stack_at;
+use lent::stack::stacked_at;
 use numbers::arith::equal;
 use numbers::arith::less;
 use numbers::place::BitAddress;
@@ -26,11 +26,11 @@ ghost use Prim.Native.Nat.{ℕ};
 ghost use Rattle.rules.specs.Op as Op;
 ghost use Rattle.rules.specs.Environment.{Env, goto};
 ghost use Rattle.rules.specs.Opcodes.{jumps, calls, rule};
-ghost use Rattle.act.specs.Lent.{CellsFull};
-ghost use Rattle.act.specs.Shown.{does, answers};
+ghost use Rattle.lent.specs.Lent.{CellsFull};
+ghost use Rattle.lent.specs.Shown.{does, answers};
 ghost use Rattle.act.specs.Conditions as Conditions;
 ghost use Rattle.act.specs.Aims as Aims;
-ghost use Rattle.act.specs.Contracts.{Goes, Stacks, Stacked};
+ghost use Rattle.lent.specs.Contracts.{Goes, Stacks, Stacked};
 
 pub enum Condition {
     NotAllowed,

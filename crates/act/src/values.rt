@@ -1,10 +1,10 @@
 // Variables: loading, arithmetic, logic, and the two values compared. a: the value on the left; dest: Vd, on the right.
-use crate::registers::Cells;
-use crate::registers::finish;
-use crate::registers::keep_compared;
-use crate::registers::refuse;
-use crate::registers::stop;
 use fetch::source::Taken;
+use lent::registers::Cells;
+use lent::registers::finish;
+use lent::registers::keep_compared;
+use lent::registers::refuse;
+use lent::registers::stop;
 use numbers::arith;
 use numbers::arith::Division;
 use numbers::place::WordIndex;
@@ -18,11 +18,11 @@ ghost use Rattle.rules.specs.Operands.{at};
 ghost use Rattle.rules.specs.Op as Op;
 ghost use Rattle.rules.specs.Opcodes.{gives, refuse, rule};
 ghost use Rattle.fetch.specs.Stages.{Destined};
-ghost use Rattle.act.specs.Lent.{CellsFull};
+ghost use Rattle.lent.specs.Lent.{CellsFull};
 ghost use Rattle.act.specs.Calculations as Calculations;
 ghost use Rattle.act.specs.Calculations.{opOf};
-ghost use Rattle.act.specs.Shown.{does, answers};
-ghost use Rattle.act.specs.Contracts.{Sets};
+ghost use Rattle.lent.specs.Shown.{does, answers};
+ghost use Rattle.lent.specs.Contracts.{Sets};
 
 // Vd's value.
 fn old(o: Operands, vars: &[u32; 64]) -> u32

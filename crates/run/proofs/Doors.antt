@@ -11,8 +11,8 @@ use Rattle.rules.specs.Environment.{Env, start, firsts}
 use Rattle.rules.specs.Door.{every, door}
 use Rattle.rules.proofs.Ranges.{both, one, other}
 use Rattle.rules.proofs.DoorLaws.{Open, opened}
-use Rattle.act.specs.Lent.{returns}
-use Rattle.act.proofs.StackLaws.{return-at}
+use Rattle.lent.specs.Lent.{returns}
+use Rattle.lent.proofs.StackLaws.{return-at}
 
 -- ---- what is stacked or open, one after the other: t is what the test says of the one at i
 module _ {A : Type 0} (test : A → Bool) (d : A) where

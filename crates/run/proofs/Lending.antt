@@ -12,7 +12,7 @@ use Rattle.player.specs.Shown.{verdictOf}
 use Rattle.rules.specs.declared.environment.Registers.{Registers}
 use Rattle.rules.specs.declared.environment.Repeat.{Repeat}
 use Rattle.rules.specs.Environment.{Env, view, stateOf}
-use Rattle.act.specs.Lent.{registers, Spread, points, Numbered, returns, nesting, repeats, look, PointsFull}
+use Rattle.lent.specs.Lent.{registers, Spread, points, Numbered, returns, nesting, repeats, look, PointsFull}
 use Rattle.run.specs.Turns.{left}
 
 -- returns and repeats as their numbers

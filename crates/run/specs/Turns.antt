@@ -10,7 +10,7 @@ use Rattle.player.specs.Run.{Answer, answer}
 use Rattle.player.specs.Shown.{verdictOf}
 use Rattle.rules.specs.Environment.{Env}
 use Rattle.rules.specs.Door.{sizeFits, fits}
-use Rattle.act.specs.Lent.{look, CellsFull, PointsFull, StackFull}
+use Rattle.lent.specs.Lent.{look, CellsFull, PointsFull, StackFull}
 
 -- what the door establishes, and every opcode leaves
 pub record Ready (w : List ℕ) (b : Bounds) (cs : List ℕ) (ps : List ℤ) (vs st s : List ℕ) : Type 0 where

@@ -2,10 +2,10 @@
 use crate::both::both;
 use crate::bounds::pane_fits;
 use crate::bounds::size_fits;
-use act::stack::Stack;
-use act::stack::nesting;
-use act::stack::repeat_at;
-use act::stack::stacked_at;
+use lent::stack::Stack;
+use lent::stack::nesting;
+use lent::stack::repeat_at;
+use lent::stack::stacked_at;
 use numbers::coordinate::in_word;
 use numbers::place::WordIndex;
 use player::State;
@@ -21,8 +21,8 @@ ghost use Prim.Native.Nat.{ℕ, _≤_};
 ghost use lib.ListN.{length};
 ghost use Rattle.rules.specs.Environment.{start, over, firsts, penOf, flowOf, view};
 ghost use Rattle.rules.specs.Door as Door;
-ghost use Rattle.act.specs.Lent as Lent;
-ghost use Rattle.act.specs.Lent.{StackFull};
+ghost use Rattle.lent.specs.Lent as Lent;
+ghost use Rattle.lent.specs.Lent.{StackFull};
 
 fn dot_fits(p: Dot) -> bool
     ensures { λ r. ⌜ r ≡ Door.dotFits p ⌝ }

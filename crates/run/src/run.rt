@@ -1,13 +1,13 @@
 // The whole call: refused at the door with nothing changed, or run.
 use crate::door::door;
 use crate::turns::turns;
-use act::registers::cells_of;
-use act::registers::gathered;
-use act::registers::points_of;
-use act::stack::nesting;
-use act::stack::numbers_of;
-use act::stack::repeats_of;
-use act::stack::returns_of;
+use lent::registers::cells_of;
+use lent::registers::gathered;
+use lent::registers::points_of;
+use lent::stack::nesting;
+use lent::stack::numbers_of;
+use lent::stack::repeats_of;
+use lent::stack::returns_of;
 use numbers::place::WordIndex;
 use player::State;
 use player::Verdict;

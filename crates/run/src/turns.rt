@@ -1,18 +1,18 @@
 // One opcode after the other: the state comes first, then the budget, then the opcode, and what it left to be painted.
-use act::registers::Cells;
-use act::registers::Points;
-use act::registers::frame;
-use act::registers::state;
-use act::stack::Stack;
 use brush::Brush;
 use brush::paint;
+use lent::registers::Cells;
+use lent::registers::Points;
+use lent::registers::frame;
+use lent::registers::state;
+use lent::stack::Stack;
 use player::Upshot;
 use raster::frame::Bounds;
 use step::step::step;
 ghost use mathlib.Core.Path.{_≡_};
 ghost use Rattle.player.specs.Run.{runs};
 ghost use Rattle.rules.specs.Step.{afgis};
-ghost use Rattle.act.specs.Lent.{look};
+ghost use Rattle.lent.specs.Lent.{look};
 ghost use Rattle.run.specs.Turns.{Ready, left};
 
 // How many were carried out. The state is asked as the run begins and behind each opcode, so it runs wherever the loop is.

@@ -11,9 +11,9 @@ use Rattle.rules.specs.Meaning.{Meaning, Known}
 use Rattle.rules.specs.Opcodes.{rule}
 use Rattle.fetch.specs.declared.source.Taken.{Taken}
 use Rattle.fetch.specs.Stages.{takenOf}
-use Rattle.act.specs.Shown.{answers}
-use Rattle.act.specs.Lent.{PointsFull}
-use Rattle.act.specs.Contracts.{Showing, Stacked, Drawable, Goes, Sets, Stacks, Moves, Paints, Draws}
+use Rattle.lent.specs.Shown.{answers}
+use Rattle.lent.specs.Lent.{PointsFull}
+use Rattle.lent.specs.Contracts.{Showing, Stacked, Drawable, Goes, Sets, Stacks, Moves, Paints, Draws}
 use Rattle.step.specs.Steps.{shows}
 
 module _ {m : Meaning} {op : Op} {source : Source} (k : m ≡ Known op source) (w : List ℕ) (pc : ℕ) (vs : List ℕ) {t : Taken} (g : t ≡ takenOf source w pc vs) where

@@ -28,9 +28,9 @@ use Rattle.rules.proofs.DoorLaws.{logical}
 use Rattle.fetch.specs.declared.source.Taken.the-variants.{Refused, Got}
 use Rattle.fetch.specs.Stages.{Reaches, takenOf}
 use Rattle.fetch.proofs.Steps as Fetched
-use Rattle.act.specs.Lent.{celled, returns, nesting, repeats, look}
-use Rattle.act.specs.Shown.{shown, does, answers}
-use Rattle.act.specs.Contracts.{HaltsHere, Drawable, Stacked, Sets, Stacks, Moves, Draws}
+use Rattle.lent.specs.Lent.{celled, returns, nesting, repeats, look}
+use Rattle.lent.specs.Shown.{shown, does, answers}
+use Rattle.lent.specs.Contracts.{HaltsHere, Drawable, Stacked, Sets, Stacks, Moves, Draws}
 use Rattle.step.specs.Steps.{shows, Able, Steps}
 
 -- a step is taken at pc: all is ready, and the list has a word there
@@ -61,7 +61,7 @@ module _ {w cs : List ℕ} {ps : List ℤ} {vs st p : List ℕ} where
   step-20 r e l h = refuses r 20 (omega arith) h (λ b. Fetched.step-20 w (look b cs ps vs st) (rw (← e) l))
 
   module _ {pc : ℕ} (h : Here w cs ps vs st p pc) where
-    -- ---- what fetch and act ask
+    -- ---- what fetch, act and draw ask
     pub reaches : Reaches w pc 0
     reaches = (omega (arith, h .inside), h .ready .few)
 

@@ -15,10 +15,10 @@ use Rattle.rules.specs.Environment.{stated}
 use Rattle.rules.specs.Opcodes.{rule}
 use Rattle.rules.specs.Step.{step}
 use Rattle.rules.specs.Door.{fits}
-use Rattle.act.specs.Lent.{look, CellsFull, PointsFull, StackFull}
+use Rattle.lent.specs.Lent.{look, CellsFull, PointsFull, StackFull}
 use Rattle.fetch.specs.Stages.{takenOf}
-use Rattle.act.specs.Shown.{seen, shown, answers}
-use Rattle.act.specs.Contracts.{Showing, Brushed}
+use Rattle.lent.specs.Shown.{seen, shown, answers}
+use Rattle.lent.specs.Contracts.{Showing, Brushed}
 
 -- what the opcode at pc must show, by what it means
 unfoldable pub shows : Meaning → List ℕ → ℕ → List ℕ → Showing

@@ -1,18 +1,18 @@
 // The opcodes that go elsewhere, repeat, end or do nothing.
 use act::flow;
-use act::registers::Cells;
 use act::repeats;
-use act::stack::Stack;
 use fetch::source::long;
 use fetch::source::plain;
 use fetch::source::variables;
 use fetch::source::word_long;
+use lent::registers::Cells;
+use lent::stack::Stack;
 use numbers::place::WordIndex;
 use player::Upshot;
 use rules::opcode::FlowForm;
 ghost use Rattle.rules.specs.Meaning as Meaning;
 ghost use Rattle.fetch.specs.Stages.{Reaches};
-ghost use Rattle.act.specs.Contracts.{Stacked, Stacks};
+ghost use Rattle.lent.specs.Contracts.{Stacked, Stacks};
 ghost use Rattle.step.specs.Steps.{shows};
 
 pub fn step(

@@ -1,18 +1,18 @@
 // The opcodes that paint: what is to be painted is left in the brush.
-use act::painting;
-use act::registers::Cells;
-use act::registers::Points;
 use brush::Brush;
+use draw::painting;
 use fetch::source::long_word;
 use fetch::source::plain;
 use fetch::source::variables;
 use fetch::source::word2_long;
+use lent::registers::Cells;
+use lent::registers::Points;
 use numbers::place::WordIndex;
 use player::Upshot;
 use rules::opcode::PaintForm;
 ghost use Rattle.rules.specs.Meaning as Meaning;
 ghost use Rattle.fetch.specs.Stages.{Reaches};
-ghost use Rattle.act.specs.Contracts.{Drawable, Draws};
+ghost use Rattle.lent.specs.Contracts.{Drawable, Draws};
 ghost use Rattle.step.specs.Steps.{shows};
 
 pub fn step(

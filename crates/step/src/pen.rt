@@ -1,17 +1,17 @@
 // The opcodes that set what is drawn with.
-use act::pen;
-use act::registers::Cells;
-use act::registers::Points;
+use draw::pen;
 use fetch::source::long;
 use fetch::source::plain;
 use fetch::source::variables;
+use lent::registers::Cells;
+use lent::registers::Points;
 use numbers::place::WordIndex;
 use player::Upshot;
 use rules::opcode::PenForm;
 ghost use Rattle.rules.specs.Meaning as Meaning;
 ghost use Rattle.fetch.specs.Stages.{Reaches};
-ghost use Rattle.act.specs.Lent.{CellsFull, PointsFull};
-ghost use Rattle.act.specs.Contracts.{Moves};
+ghost use Rattle.lent.specs.Lent.{CellsFull, PointsFull};
+ghost use Rattle.lent.specs.Contracts.{Moves};
 ghost use Rattle.step.specs.Steps.{shows};
 
 pub fn step(

@@ -1,17 +1,17 @@
 // The opcodes of the variables and the values compared.
-use act::registers::Cells;
 use act::values;
 use fetch::source::long_var;
 use fetch::source::var;
 use fetch::source::var_var;
 use fetch::source::word_var;
+use lent::registers::Cells;
 use numbers::place::WordIndex;
 use player::Upshot;
 use rules::opcode::ValueForm;
 ghost use Rattle.rules.specs.Meaning as Meaning;
 ghost use Rattle.fetch.specs.Stages.{Reaches};
-ghost use Rattle.act.specs.Lent.{CellsFull};
-ghost use Rattle.act.specs.Contracts.{Sets};
+ghost use Rattle.lent.specs.Lent.{CellsFull};
+ghost use Rattle.lent.specs.Contracts.{Sets};
 ghost use Rattle.step.specs.Steps.{shows};
 
 pub fn step(

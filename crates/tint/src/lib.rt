@@ -3,13 +3,13 @@ mod tint; // the tint of an opcode, and painting in it
 mod turns; // as many as the budget allows
 
 use crate::turns::tinted_turns;
-use act::registers::cells_of;
-use act::registers::gathered;
-use act::registers::points_of;
-use act::stack::nesting;
-use act::stack::numbers_of;
-use act::stack::repeats_of;
-use act::stack::returns_of;
+use lent::registers::cells_of;
+use lent::registers::gathered;
+use lent::registers::points_of;
+use lent::stack::nesting;
+use lent::stack::numbers_of;
+use lent::stack::repeats_of;
+use lent::stack::returns_of;
 use rules::answer::Answer;
 use rules::environment::Env;
 use rules::environment::state_of;

@@ -1,19 +1,19 @@
 // One opcode after the other, as `run::turns`, each painted in its tint.
 use crate::tint::paint_in;
 use crate::tint::tint_of;
-use act::registers::Cells;
-use act::registers::Points;
-use act::registers::counter;
-use act::registers::frame;
-use act::registers::state;
-use act::stack::Stack;
 use brush::Brush;
+use lent::registers::Cells;
+use lent::registers::Points;
+use lent::registers::counter;
+use lent::registers::frame;
+use lent::registers::state;
+use lent::stack::Stack;
 use player::Upshot;
 use raster::frame::Bounds;
 use step::step::step;
 ghost use mathlib.Core.Path.{_≡_};
 ghost use Rattle.player.specs.Run.{runs};
-ghost use Rattle.act.specs.Lent.{look};
+ghost use Rattle.lent.specs.Lent.{look};
 ghost use Rattle.run.specs.Turns.{Ready, left};
 ghost use Rattle.tint.specs.Tint.{hued};
 

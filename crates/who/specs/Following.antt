@@ -9,7 +9,7 @@ use lib.Signed.{leZ}
 use Rattle.raster.specs.declared.dots.Dot.{Dot}
 use Rattle.raster.specs.declared.frame.Bounds.{Bounds}
 use Rattle.rules.specs.Door.{sizeFits, fits}
-use Rattle.act.specs.Lent.{look, CellsFull, PointsFull, StackFull}
+use Rattle.lent.specs.Lent.{look, CellsFull, PointsFull, StackFull}
 
 -- what the door establishes, and every opcode leaves
 pub record Ready (w : List ℕ) (b : Bounds) (cs : List ℕ) (ps : List ℤ) (vs st : List ℕ) : Type 0 where

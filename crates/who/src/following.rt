@@ -2,14 +2,14 @@
 // contains the dot.
 use crate::Writer;
 use crate::saying;
-use act::registers::Cells;
-use act::registers::Points;
-use act::registers::counter;
-use act::registers::frame;
-use act::registers::state;
-use act::stack::Stack;
 use brush::Brush;
 use contains::contains;
+use lent::registers::Cells;
+use lent::registers::Points;
+use lent::registers::counter;
+use lent::registers::frame;
+use lent::registers::state;
+use lent::stack::Stack;
 use numbers::place::WordIndex;
 use player::Upshot;
 use raster::frame::Bounds;
@@ -22,7 +22,7 @@ ghost use Rattle.raster.specs.Frame.{Sane};
 ghost use Rattle.brush.specs.Brush.{Near, colourOf};
 ghost use Rattle.player.specs.Shown.{brushed};
 ghost use Rattle.player.specs.Writing.{writes};
-ghost use Rattle.act.specs.Lent.{look};
+ghost use Rattle.lent.specs.Lent.{look};
 ghost use Rattle.who.specs.Who.{found};
 ghost use Rattle.who.specs.Following.{Ready, pixel};
 

@@ -4,9 +4,9 @@ mod following; // one opcode after the other, and who is named so far
 
 use crate::coordinate::unsigned;
 use crate::following::last_writer;
-use act::registers::cells_of;
-use act::registers::points_of;
-use act::stack::numbers_of;
+use lent::registers::cells_of;
+use lent::registers::points_of;
+use lent::stack::numbers_of;
 use numbers::place::WordIndex;
 use raster::dots::Dot;
 use raster::frame::Bounds;

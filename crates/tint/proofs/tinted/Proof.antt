@@ -7,7 +7,7 @@ use Rattle.player.specs.Shown.{verdictOf}
 use Rattle.player.proofs.Doors.{refused-whole, run-whole}
 use Rattle.rules.specs.Environment.{Env, held}
 use Rattle.rules.specs.Door.{fits, door}
-use Rattle.act.specs.Lent.{look}
+use Rattle.lent.specs.Lent.{look}
 use Rattle.run.proofs.Doors.{let-in}
 use Rattle.run.proofs.Lending.{entered, full-points, lent, answers}
 use Rattle.tint.specs.Tint.{hued, machine}

@@ -9,7 +9,7 @@ use Rattle.rules.specs.Door.{fits}
 use Rattle.rules.specs.Door as Door
 use Rattle.rules.proofs.Ranges.{parted}
 use Rattle.rules.proofs.DoorLaws.{Open, opened, sound}
-use Rattle.act.specs.Lent.{look}
+use Rattle.lent.specs.Lent.{look}
 use Rattle.run.proofs.Lending.{entered, full-points, lent}
 use Rattle.who.specs.Who.{door, found}
 use Rattle.who.specs.Following.{Unsigned}

@@ -2,7 +2,7 @@
 use borrow.Author.Needs.{needs}
 use Rattle.rules.specs.Opcodes.{absolute}
 use Rattle.act.proofs.CallLaws.{call-aimed}
-use Rattle.act.proofs.Handing.{passed-stacks, got-stacks}
+use Rattle.lent.proofs.Handing.{passed-stacks, got-stacks}
 use Rattle.act.proofs.flow.call.Statement.{statement}
 use Rattle.act.proofs.flow.call.Tie as tie
 

@@ -2,7 +2,7 @@
 use borrow.Author.Needs.{needs}
 use Rattle.rules.specs.Opcodes.{relative}
 use Rattle.act.proofs.CallLaws.{call-aimed}
-use Rattle.act.proofs.Handing.{passed-stacks, got-stacks}
+use Rattle.lent.proofs.Handing.{passed-stacks, got-stacks}
 use Rattle.act.proofs.flow.call_by.Statement.{statement}
 use Rattle.act.proofs.flow.call_by.Tie as tie
 

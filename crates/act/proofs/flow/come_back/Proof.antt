@@ -1,6 +1,6 @@
 -- `come_back`: back, whatever was got.
 use borrow.Author.Needs.{needs}
-use Rattle.act.proofs.Handing.{passed-stacks, got-stacks}
+use Rattle.lent.proofs.Handing.{passed-stacks, got-stacks}
 use Rattle.act.proofs.flow.come_back.Statement.{statement}
 use Rattle.act.proofs.flow.come_back.Tie as tie
 

@@ -1,8 +1,8 @@
 -- `end`: the state is ended.
 use mathlib.Core.Path.{refl}
 use borrow.Author.Needs.{needs}
-use Rattle.act.proofs.Acting.{paints-nothing}
-use Rattle.act.proofs.Handing.{passed-goes, got-goes, settled, then}
+use Rattle.lent.proofs.Acting.{paints-nothing}
+use Rattle.lent.proofs.Handing.{passed-goes, got-goes, settled, then}
 use Rattle.act.proofs.flow.end.Statement.{statement}
 use Rattle.act.proofs.flow.end.Tie as tie
 

@@ -1,6 +1,6 @@
 -- `jump`: the target is given by its address.
 use borrow.Author.Needs.{needs}
-use Rattle.act.proofs.Handing.{passed-goes, got-goes}
+use Rattle.lent.proofs.Handing.{passed-goes, got-goes}
 use Rattle.act.proofs.flow.jump.Statement.{statement}
 use Rattle.act.proofs.flow.jump.Tie as tie
 

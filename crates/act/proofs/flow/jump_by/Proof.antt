@@ -1,6 +1,6 @@
 -- `jump_by`: the target is given by an offset.
 use borrow.Author.Needs.{needs}
-use Rattle.act.proofs.Handing.{passed-goes, got-goes}
+use Rattle.lent.proofs.Handing.{passed-goes, got-goes}
 use Rattle.act.proofs.flow.jump_by.Statement.{statement}
 use Rattle.act.proofs.flow.jump_by.Tie as tie
 

@@ -1,8 +1,8 @@
 -- `noop`: on to the next opcode.
 use mathlib.Core.Path.{refl}
 use borrow.Author.Needs.{needs}
-use Rattle.act.proofs.Acting.{paints-nothing}
-use Rattle.act.proofs.Handing.{passed-goes, got-goes, settled}
+use Rattle.lent.proofs.Acting.{paints-nothing}
+use Rattle.lent.proofs.Handing.{passed-goes, got-goes, settled}
 use Rattle.act.proofs.flow.noop.Statement.{statement}
 use Rattle.act.proofs.flow.noop.Tie as tie
 

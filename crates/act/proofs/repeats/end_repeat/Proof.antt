@@ -1,6 +1,6 @@
 -- `end_repeat`: a pass ends, whatever was got.
 use borrow.Author.Needs.{needs}
-use Rattle.act.proofs.Handing.{passed-stacks, got-stacks}
+use Rattle.lent.proofs.Handing.{passed-stacks, got-stacks}
 use Rattle.act.proofs.repeats.end_repeat.Statement.{statement}
 use Rattle.act.proofs.repeats.end_repeat.Tie as tie
 

@@ -1,6 +1,6 @@
 -- `repeat`: a block begins, if its count was got.
 use borrow.Author.Needs.{needs}
-use Rattle.act.proofs.Handing.{passed-stacks, got-stacks}
+use Rattle.lent.proofs.Handing.{passed-stacks, got-stacks}
 use Rattle.act.proofs.repeats.repeat.Statement.{statement}
 use Rattle.act.proofs.repeats.repeat.Tie as tie
 

@@ -1,6 +1,6 @@
 -- `calculate`: what is calculated of Vd's value and the operand is put, whatever the calculation.
 use borrow.Author.Needs.{needs}
-use Rattle.act.proofs.Handing.{passed-sets, got-sets, destined}
+use Rattle.lent.proofs.Handing.{passed-sets, got-sets, destined}
 use Rattle.act.proofs.ValueLaws.{calculates}
 use Rattle.act.proofs.values.calculate.Statement.{statement}
 use Rattle.act.proofs.values.calculate.Tie as tie

@@ -3,8 +3,8 @@ use mathlib.Core.Path.{refl}
 use borrow.Author.Needs.{needs}
 use Rattle.rules.specs.Environment.{compared}
 use Rattle.rules.specs.Opcodes.{leaves}
-use Rattle.act.proofs.Acting.{paints-nothing}
-use Rattle.act.proofs.Handing.{passed-sets, got-sets, settled, then, destined}
+use Rattle.lent.proofs.Acting.{paints-nothing}
+use Rattle.lent.proofs.Handing.{passed-sets, got-sets, settled, then, destined}
 use Rattle.act.proofs.ValueLaws.{of-old}
 use Rattle.act.proofs.values.compare.Statement.{statement}
 use Rattle.act.proofs.values.compare.Tie as tie

@@ -1,7 +1,7 @@
 -- `divide`: the quotient is put, unless the divisor is zero.
 use borrow.Author.Needs.{needs}
 use Rattle.numbers.specs.Number.{quotient32}
-use Rattle.act.proofs.Handing.{passed-sets, got-sets, destined}
+use Rattle.lent.proofs.Handing.{passed-sets, got-sets, destined}
 use Rattle.act.proofs.ValueLaws.{divided}
 use Rattle.act.proofs.values.divide.Statement.{statement}
 use Rattle.act.proofs.values.divide.Tie as tie

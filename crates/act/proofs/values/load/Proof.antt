@@ -1,6 +1,6 @@
 -- `load`: the operand is put.
 use borrow.Author.Needs.{needs}
-use Rattle.act.proofs.Handing.{passed-sets, got-sets, destined}
+use Rattle.lent.proofs.Handing.{passed-sets, got-sets, destined}
 use Rattle.act.proofs.values.load.Statement.{statement}
 use Rattle.act.proofs.values.load.Tie as tie
 

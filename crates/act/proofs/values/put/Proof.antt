@@ -1,8 +1,8 @@
 -- `put`: the store is what the rule says.
 use mathlib.Core.Path.{refl}
 use borrow.Author.Needs.{needs}
-use Rattle.act.proofs.Acting.{paints-nothing}
-use Rattle.act.proofs.Handing.{settled}
+use Rattle.lent.proofs.Acting.{paints-nothing}
+use Rattle.lent.proofs.Handing.{settled}
 use Rattle.act.proofs.values.put.Statement.{statement}
 use Rattle.act.proofs.values.put.Tie as tie
 

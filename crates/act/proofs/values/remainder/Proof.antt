@@ -1,7 +1,7 @@
 -- `remainder`: the remainder is put, unless the divisor is zero.
 use borrow.Author.Needs.{needs}
 use Rattle.numbers.specs.Number.{remainder32}
-use Rattle.act.proofs.Handing.{passed-sets, got-sets, destined}
+use Rattle.lent.proofs.Handing.{passed-sets, got-sets, destined}
 use Rattle.act.proofs.ValueLaws.{divided}
 use Rattle.act.proofs.values.remainder.Statement.{statement}
 use Rattle.act.proofs.values.remainder.Tie as tie

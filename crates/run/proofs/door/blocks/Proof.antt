@@ -7,7 +7,7 @@ use borrow.Author.Needs.{needs}
 use borrow.Author.Tests.{not-true, not-false}
 use Rattle.rules.specs.Environment.{over, firsts}
 use Rattle.rules.specs.Door.{every, repeatFits}
-use Rattle.act.specs.Lent.{repeats}
+use Rattle.lent.specs.Lent.{repeats}
 use Rattle.run.proofs.Doors.{bad, good}
 use Rattle.run.proofs.door.blocks.Statement.{statement}
 use Rattle.run.proofs.door.blocks.Tie as tie

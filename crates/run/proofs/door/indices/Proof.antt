@@ -7,7 +7,7 @@ use borrow.Author.Needs.{needs}
 use borrow.Author.Tests.{not-true, not-false}
 use Rattle.rules.specs.Environment.{start, firsts}
 use Rattle.rules.specs.Door.{every, indexFits}
-use Rattle.act.specs.Lent as Lent
+use Rattle.lent.specs.Lent as Lent
 use Rattle.run.proofs.Doors.{bad, good, stacked-is}
 use Rattle.run.proofs.door.indices.Statement.{statement}
 use Rattle.run.proofs.door.indices.Tie as tie

@@ -8,7 +8,7 @@ use Rattle.player.proofs.Doors.{refused-whole, run-whole}
 use Rattle.rules.specs.Environment.{Env, held}
 use Rattle.rules.specs.Door.{fits, door, machine}
 use Rattle.rules.specs.Step.{afgis}
-use Rattle.act.specs.Lent.{look}
+use Rattle.lent.specs.Lent.{look}
 use Rattle.run.proofs.Doors.{let-in}
 use Rattle.run.proofs.Lending.{entered, full-points, lent, answers}
 use Rattle.run.proofs.run.run.Statement.{statement}

@@ -17,7 +17,7 @@ use Rattle.player.proofs.Turning.{Turned, turned-long, painting, turned-paintin
 use Rattle.rules.specs.Environment.{frame}
 use Rattle.rules.specs.Step.{afgis}
 use Rattle.rules.proofs.Ranges.{parted}
-use Rattle.act.specs.Lent.{look}
+use Rattle.lent.specs.Lent.{look}
 use Rattle.run.specs.Turns.{Ready}
 use Rattle.run.proofs.Stepping.{running, not-running, leaves-fits, may-draw}
 use Rattle.run.proofs.turns.turns.Statement.{statement}

@@ -18,7 +18,7 @@ use Rattle.player.proofs.Tints.{as-well, tinted-painting, tinted-quiet, tinted-
 use Rattle.rules.specs.Environment.{Env, frame}
 use Rattle.rules.specs.Step.{step, afgis}
 use Rattle.rules.proofs.Ranges.{parted}
-use Rattle.act.specs.Lent.{look}
+use Rattle.lent.specs.Lent.{look}
 use Rattle.run.specs.Turns.{Ready}
 use Rattle.run.proofs.Stepping.{running, not-running, leaves-fits, may-draw}
 use Rattle.tint.specs.Tint.{tint, tintAt, hued}

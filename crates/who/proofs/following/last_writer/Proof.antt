@@ -22,7 +22,7 @@ use Rattle.rules.specs.Step.{afgis}
 use Rattle.rules.specs.Door.{fits}
 use Rattle.rules.proofs.Ranges.{parted}
 use Rattle.rules.proofs.DoorLaws.{sane}
-use Rattle.act.specs.Lent.{look}
+use Rattle.lent.specs.Lent.{look}
 use Rattle.run.proofs.Stepping.{running, not-running, leaves-fits}
 use Rattle.who.specs.declared.Writer.{Writer}
 use Rattle.who.specs.Who.{naming, found}

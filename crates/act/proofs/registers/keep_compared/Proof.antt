@@ -1,8 +1,0 @@
--- `keep_compared`: the values compared are cells 1 and 2.
-use borrow.Author.Needs.{needs}
-use Rattle.act.proofs.LentLaws.{compared-set}
-use Rattle.act.proofs.registers.keep_compared.Statement.{statement}
-use Rattle.act.proofs.registers.keep_compared.Tie as tie
-
-pub keep-compared-spec : {M : Type 1} → statement M
-keep-compared-spec = tie.close (tie.spec (λ c. search needs) (λ c. search needs) (λ c. compared-set _ (c .pre) _ _))

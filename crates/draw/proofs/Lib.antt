@@ -1,0 +1,2 @@
+-- What the proofs of draw's functions cite.
+pub mod PointLaws
