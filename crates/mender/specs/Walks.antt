@@ -1,0 +1,23 @@
+-- Document 02, T-14: a list that a walk goes through without meeting anything unknown or cut, in the rules' own words: `unknown` is 21 and `cut` is 22 of a step.
+use Prim.Native.Nat.{ℕ, _+_, _≤_}
+use mathlib.Core.Path.{_≡_}
+use mathlib.Core.Bool.{false}
+use mathlib.Core.List.{List}
+use lib.ListN.{length}
+use Rattle.rules.specs.Meaning.{Meaning, Unknown, Known, meaning}
+use Rattle.rules.specs.Table.{formOf}
+use Rattle.rules.specs.Operands.{at, sizeOf}
+use Rattle.rules.specs.Step.{unknown, cut}
+
+-- what stands at word pc, and how many words it has; what is no opcode stands by itself
+abbrev pub standing : List ℕ → ℕ → Meaning
+standing w pc = meaning (formOf (at w pc))
+
+abbrev pub size : Meaning → ℕ
+size Unknown = 1
+size (Known op s) = sizeOf s
+
+-- from word pc on
+pub data Walks (w : List ℕ) : ℕ → Type 0 where
+  end : {pc : ℕ} → length w ≤ pc → Walks w pc
+  opcode : {pc : ℕ} → unknown (standing w pc) ≡ false → cut (standing w pc) w pc ≡ false → Walks w (pc + size (standing w pc)) → Walks w pc
