@@ -1,7 +1,7 @@
--- Facts of every row of the table, each computed over the table once: sizes, and which number EODL, RPT and ERPT have.
+-- Facts of every row of the table, each computed over the table once: sizes, what is no opcode, and which number EODL, RPT and ERPT have.
 use Prim.Native.Nat.{ℕ, _≤_}
 use mathlib.Core.Path.{_≡_, refl, sym, ap, _∙_}
-use mathlib.Core.Bool.{Bool, true, false, cond, true≢false}
+use mathlib.Core.Bool.{Bool, true, false, cond, true≢false, Bool·beq}
 use mathlib.Core.List.{List, [], _∷_}
 use lib.Dec.{leb, eqb}
 use borrow.Author.Tests.{leb-true, eqb-true, eq-eqb}
@@ -9,6 +9,7 @@ use Rattle.rules.specs.declared.opcode.Form.{Form}
 use Rattle.rules.specs.Meaning.{Meaning, Unknown, Known, meaning}
 use Rattle.rules.specs.Table.{Row, find, table, formOf}
 use Rattle.rules.specs.Operands.{sizeOf}
+use Rattle.rules.specs.Step.{unknown}
 use Rattle.forms.specs.declared.layout.Layout.{Layout}
 use Rattle.forms.specs.declared.layout.Layout.the-variants.{Strange, Plain, Flow, Ends, Opens, Closes}
 use Rattle.forms.specs.Layout.{layoutOf, layoutAt, words}
@@ -49,6 +50,25 @@ sized n = eqb-true _ _ (of-table (λ k m. eqb (words (layoutOf m)) (sizeIn m)) n
 pub some-words : (n : ℕ) → 1 ≤ words (layoutAt n)
 unfolding layoutAt
 some-words n = leb-true _ _ (of-table (λ k m. leb 1 (words (layoutOf m))) n refl refl)
+
+-- ---- what is no opcode, and nothing else, has the layout of none
+abbrev pub none : Layout → Bool
+none Strange = true
+none (Plain n) = false
+none (Flow n) = false
+none Ends = false
+none Opens = false
+none Closes = false
+
+agree : (a b : Bool) → Bool·beq a b ≡ true → a ≡ b
+agree true true h = refl
+agree true false h = sym h
+agree false true h = h
+agree false false h = refl
+
+pub strange : (n : ℕ) → none (layoutAt n) ≡ unknown (meaning (formOf n))
+unfolding layoutAt
+strange n = agree _ _ (of-table (λ k m. Bool·beq (none (layoutOf m)) (unknown m)) n refl refl)
 
 -- ---- the layouts that one number alone has
 abbrev alone : Layout → ℕ
