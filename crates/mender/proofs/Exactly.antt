@@ -3,9 +3,9 @@ use Prim.Native.Nat.{ℕ, zero, suc, _+_, _<_, _≤_}
 use mathlib.Core.Path.{_≡_, refl, sym, ap, _∙_, subst}
 use mathlib.Core.Bool.{Bool, true, false, cond}
 use mathlib.Core.Logic.{_⊎_, inl, inr}
-use mathlib.Core.List.{List, [], _∷_, _++_, List·Memᴰ, List·Memᴰ·head, List·Memᴰ·tail, List·Memᴰ·cases-cons, List·Memᴰ·not-nil, Memᴰ·cast, Memᴰ·append-right}
+use mathlib.Core.List.{List, [], _∷_, _++_, List·Memᴰ, List·Memᴰ·head, List·Memᴰ·cases-cons, List·Memᴰ·not-nil, Memᴰ·cast, Memᴰ·append-right}
 use native.Mathlib.Omega.{arith}
-use borrow.Author.Tests.{eqb-true, eqb-false}
+use borrow.Author.Tests.{eqb-false}
 use lib.Dec.{eqb}
 use lib.ListN.{length, getD}
 use Rattle.mender.specs.declared.report.Change.{Change}
@@ -25,6 +25,7 @@ abbrev pub Rising : ℕ → List Change → Type 0
 Rising i [] = Unit {0}
 Rising i (c ∷ cs) = (i ≤ c .index .0) × Rising (suc (c .index .0)) cs
 
+-- cs are the changes from w to m: each one that differs, only those, in order
 pub record Exactly (w m : List ℕ) (cs : List Change) : Type 0 where
   pub all : (i : ℕ) → Differs w m i → List·Memᴰ (changeAt w m i) cs
   pub only : (c : Change) → List·Memᴰ c cs → (i : ℕ) × Differs w m i × (c ≡ changeAt w m i)

@@ -1,5 +1,5 @@
 -- Document 02, T-14, the request's sentences, opcode by opcode.
-use Prim.Native.Nat.{ℕ, suc, _+_, _-_, _<_}
+use Prim.Native.Nat.{ℕ, suc, _-_, _<_}
 use mathlib.Core.Path.{_≡_, refl, sym, ap, _∙_}
 use mathlib.Core.Bool.{Bool, cond}
 use mathlib.Core.List.{List, [], _∷_, _++_}
@@ -13,7 +13,7 @@ use Rattle.rules.specs.Operands.{Source, sizeOf}
 use Rattle.mender.specs.declared.walk.Phase.{Phase}
 use Rattle.mender.specs.declared.walk.Phase.the-variants.{Inside, Cut}
 use Rattle.mender.specs.declared.walk.Passed.{Passed}
-use Rattle.mender.specs.Walk.{passed, begun, passing, mendedFrom, mended}
+use Rattle.mender.specs.Walk.{passed, passing, mendedFrom, mended}
 use Rattle.mender.proofs.Walking.{means, operand}
 
 -- one word on, by what becomes of it

@@ -15,7 +15,7 @@ use Rattle.mender.specs.declared.report.Change.{Change}
 use Rattle.mender.specs.Walk.{mended}
 use Rattle.mender.specs.Walks.{Walks}
 use Rattle.mender.specs.Report.{changes, numbers}
-use Rattle.mender.specs.Mended.{Left, left, mending, Promise}
+use Rattle.mender.specs.Mended.{Left, left, Promise}
 use Rattle.mender.proofs.Reporting.{no-change}
 use Rattle.mender.proofs.Mending.{wanted, count, three-a-change, all-mended, Came, at-13, at-32, at-0, came}
 use Rattle.mender.proofs.Afterwards.{mended-walks, unchanged, same-length}
@@ -26,8 +26,8 @@ use Rattle.mender.proofs.Exactly.{Exactly, exactly}
 pub record Call (w r : List ℕ) (a : Mended) (w' r' : List ℕ) : Type 0 where
   pub kept : Promise w r a w' r'
 
-abbrev all : Mended → List ℕ → List ℕ → Left
-all a w' r' = record { answer = a; list = w'; report = r' }
+abbrev pub outcome : Mended → List ℕ → List ℕ → Left
+outcome a w' r' = record { answer = a; list = w'; report = r' }
 
 -- ---- which number: 13, 32 or 0, each exactly where it is due; with 32 and 0 the count is told
 pub record Numbered (w r : List ℕ) (a : Mended) : Type 0 where
@@ -37,7 +37,7 @@ pub record Numbered (w r : List ℕ) (a : Mended) : Type 0 where
   pub counted : length w ≤ 65536 → a .changes ≡ count w
   pub none-counted : 65536 < length w → a .changes ≡ 0
 
--- ---- 0: the list walks, and the report is of the words that differ, and of nothing else
+-- ---- 0: the list walks, and the report has from its start the words that differ, and nothing else; what lies behind is as it was
 pub record Mends (w r : List ℕ) (a : Mended) (w' r' : List ℕ) : Type 0 where
   pub list : w' ≡ mended w
   pub walks : Walks w' 0
@@ -66,13 +66,13 @@ mends w r room =
     }
 
 module _ {w r : List ℕ} {a : Mended} {w' r' : List ℕ} (c : Call w r a w' r') where
-  went : Came w r (all a w' r')
+  went : Came w r (outcome a w' r')
   went = subst (Came w r) (sym (c .kept)) (came w r)
 
   pub numbered : Numbered w r a
   numbered = by went
     where
-      by : Came w r (all a w' r') → Numbered w r a
+      by : Came w r (outcome a w' r') → Numbered w r a
       by (at-13 long is) =
           let n : a .number ≡ 13 = ap (λ (l : Left). l .answer .number) is in
           record {
@@ -104,7 +104,7 @@ module _ {w r : List ℕ} {a : Mended} {w' r' : List ℕ} (c : Call w r a w' r')
   pub mends-it : a .number ≡ 0 → Mends w r a w' r'
   mends-it ok = by went
     where
-      by : Came w r (all a w' r') → Mends w r a w' r'
+      by : Came w r (outcome a w' r') → Mends w r a w' r'
       by (at-13 long is) = absurd (omega (arith, ok, ap (λ (l : Left). l .answer .number) is))
       by (at-32 words short is) = absurd (omega (arith, ok, ap (λ (l : Left). l .answer .number) is))
       by (at-0 words room is) = subst (λ (l : Left). Mends w r (l .answer) (l .list) (l .report)) (sym is) (mends w r room)
@@ -117,13 +117,13 @@ module _ {w r : List ℕ} {a : Mended} {w' r' : List ℕ} (c : Call w r a w' r')
   pub untouched : (a .number ≡ 0 → ⊥) → (w' ≡ w) × (r' ≡ r)
   untouched other = by went
     where
-      by : Came w r (all a w' r') → (w' ≡ w) × (r' ≡ r)
+      by : Came w r (outcome a w' r') → (w' ≡ w) × (r' ≡ r)
       by (at-13 long is) = (ap (λ (l : Left). l .list) is, ap (λ (l : Left). l .report) is)
       by (at-32 words short is) = (ap (λ (l : Left). l .list) is, ap (λ (l : Left). l .report) is)
       by (at-0 words room is) = absurd (other (ap (λ (l : Left). l .answer .number) is))
 
   -- ---- a list that walked cleanly: 0 and no change, list and report as they were
-  pub nothing-to-mend : Walks w 0 → length w ≤ 65536 → all a w' r' ≡ left 0 0 w r
+  pub nothing-to-mend : Walks w 0 → length w ≤ 65536 → outcome a w' r' ≡ left 0 0 w r
   unfolding numbers
   nothing-to-mend clean words =
       let same = unchanged clean in
@@ -138,7 +138,7 @@ module _ {w r : List ℕ} {a : Mended} {w' r' : List ℕ} (c : Call w r a w' r')
       (ap (λ (l : Left). l .answer) same, ap (λ (l : Left). l .list) same, ap (λ (l : Left). l .report) same)
 
 -- ---- a second call, with any report, changes nothing
-pub second-call : {w r w' r' s v s' : List ℕ} {a b : Mended} → Call w r a w' r' → a .number ≡ 0 → Call w' s b v s' → all b v s' ≡ left 0 0 w' s
+pub second-call : {w r w' r' s v s' : List ℕ} {a b : Mended} → Call w r a w' r' → a .number ≡ 0 → Call w' s b v s' → outcome b v s' ≡ left 0 0 w' s
 second-call first ok second =
     let t = mends-it first ok in
     let few = numbered first .zero .0 ok .0 in

@@ -1,7 +1,7 @@
 -- Document 02, T-14, 'such a walk meets nothing unknown or cut', of the step of a run: wherever its counter is a place of the walk, inside the list, it is not
 -- refused with 20, 21 or 22.
 use Prim.Native.Nat.{ℕ, _+_, _<_, _≤_}
-use mathlib.Core.Path.{_≡_, sym, ap, subst}
+use mathlib.Core.Path.{_≡_, sym, subst}
 use mathlib.Core.Bool.{Bool, true, false, true≢false}
 use mathlib.Core.List.{List}
 use native.Mathlib.Omega.{arith}

@@ -5,7 +5,7 @@ use Rattle.mender.proofs.replace.Statement.{statement}
 use Rattle.mender.proofs.replace.Tie as tie
 
 returns : tie.Need-returns
-returns c = same-put _ _ _ _ _ (c .if1 .taken)
+returns c = let a = c .before .before .before .before .before .args in same-put (a .list .now) (a .report .now) (a .at .0) (a .word) (a .k) (c .if1 .taken)
 
 put-change-requires : tie.Need-put-change-requires
 put-change-requires c κs =
