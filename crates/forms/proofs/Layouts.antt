@@ -6,13 +6,12 @@ use mathlib.Core.List.{List, [], _∷_}
 use lib.Dec.{leb, eqb}
 use borrow.Author.Tests.{leb-true, eqb-true, eq-eqb}
 use Rattle.rules.specs.declared.opcode.Form.{Form}
-use Rattle.rules.specs.Meaning.{Meaning, Unknown, Known, meaning}
+use Rattle.rules.specs.Meaning.{Meaning, Unknown, meaning}
 use Rattle.rules.specs.Table.{Row, find, table, formOf}
-use Rattle.rules.specs.Operands.{sizeOf}
 use Rattle.rules.specs.Step.{unknown}
 use Rattle.forms.specs.declared.layout.Layout.{Layout}
 use Rattle.forms.specs.declared.layout.Layout.the-variants.{Strange, Plain, Flow, Ends, Opens, Closes}
-use Rattle.forms.specs.Layout.{layoutOf, layoutAt, words}
+use Rattle.forms.specs.Layout.{layoutOf, layoutAt, words, sizeIn}
 
 -- a test of number and meaning that each row passes, and what is unknown, is passed by what is found
 abbrev pub each : (ℕ → Meaning → Bool) → List Row → Bool
@@ -39,10 +38,6 @@ unfolding layoutAt
 by-form n h = ap (λ (f : Form). layoutOf (meaning f)) h
 
 -- ---- sizes: an opcode's words are those of the rules, and there is at least one
-abbrev pub sizeIn : Meaning → ℕ
-sizeIn Unknown = 1
-sizeIn (Known op s) = sizeOf s
-
 pub sized : (n : ℕ) → words (layoutAt n) ≡ sizeIn (meaning (formOf n))
 unfolding layoutAt
 sized n = eqb-true _ _ (of-table (λ k m. eqb (words (layoutOf m)) (sizeIn m)) n refl refl)

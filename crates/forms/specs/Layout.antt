@@ -52,7 +52,7 @@ layoutOf (Known op s) = laid op (sizeOf s)
 unfoldable pub layoutAt : ℕ → Layout
 layoutAt n = layoutOf (meaning (formOf n))
 
--- how many words belong together; what is no opcode stands by itself
+-- how many words belong together, by the layout and by what the word means; what is no opcode stands by itself
 abbrev pub words : Layout → ℕ
 words Strange = 1
 words (Plain n) = n
@@ -60,3 +60,7 @@ words (Flow n) = n
 words Ends = 1
 words Opens = 2
 words Closes = 1
+
+abbrev pub sizeIn : Meaning → ℕ
+sizeIn Unknown = 1
+sizeIn (Known op s) = sizeOf s

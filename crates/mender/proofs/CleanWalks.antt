@@ -12,7 +12,8 @@ use Rattle.rules.specs.Meaning.{Meaning, Unknown, Known, meaning}
 use Rattle.rules.specs.Table.{formOf}
 use Rattle.rules.specs.Operands.{Source, at, sizeOf}
 use Rattle.rules.specs.Step.{unknown, cut}
-use Rattle.mender.specs.Walks.{standing, size, Walks, end, opcode}
+use Rattle.forms.specs.Layout.{sizeIn}
+use Rattle.mender.specs.Walks.{standing, Walks, end, opcode}
 use Rattle.mender.proofs.Walking.{opened}
 use Rattle.mender.proofs.Clean.{Clean, done, next}
 
@@ -26,7 +27,7 @@ here before x {op} {s} is ops rest long later =
     let fits : pc + sizeOf s ≤ length w = omega (arith, long, length-append before (x ∷ ops ++ rest), length-append ops rest) in
     let place : length (before ++ (x ∷ ops)) ≡ pc + sizeOf s = length-append before (x ∷ ops) ∙ ap (λ (n : ℕ). pc + n) long in
     let on : Walks w (pc + sizeOf s) = subst (Walks w) place (subst (λ (l : List ℕ). Walks l (length (before ++ (x ∷ ops)))) (append-assoc before (x ∷ ops) rest) later) in
-    opcode (ap unknown stands) (ap (λ (m : Meaning). cut m w pc) stands ∙ le-ltb (length w) (pc + sizeOf s) fits) (subst (λ (m : Meaning). Walks w (pc + size m)) (sym stands) on)
+    opcode (ap unknown stands) (ap (λ (m : Meaning). cut m w pc) stands ∙ le-ltb (length w) (pc + sizeOf s) fits) (subst (λ (m : Meaning). Walks w (pc + sizeIn m)) (sym stands) on)
 
 behind : {rest : List ℕ} → Clean rest → (before : List ℕ) → Walks (before ++ rest) (length before)
 behind done before = end {pc = length before} (omega (arith, length-append before []))
@@ -36,7 +37,7 @@ pub clean-walks : {w : List ℕ} → Clean w → Walks w 0
 clean-walks c = behind c []
 
 -- ---- an opcode that is neither unknown nor cut, with what is behind it
-whole : (w : List ℕ) (pc : ℕ) (m : Meaning) → standing w pc ≡ m → unknown m ≡ false → cut m w pc ≡ false → Clean (drop (pc + size m) w) → Clean (drop pc w)
+whole : (w : List ℕ) (pc : ℕ) (m : Meaning) → standing w pc ≡ m → unknown m ≡ false → cut m w pc ≡ false → Clean (drop (pc + sizeIn m) w) → Clean (drop pc w)
 whole w pc Unknown is u c later = absurd (true≢false u)
 whole w pc (Known op s) is u c later =
     let fits : pc + sizeOf s ≤ length w = ltb-false (length w) (pc + sizeOf s) c in

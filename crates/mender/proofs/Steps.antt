@@ -16,7 +16,8 @@ use Rattle.rules.specs.Environment.{Env}
 use Rattle.rules.specs.Opcodes.{Rule}
 use Rattle.rules.specs.Step.{check, unknown, cut, misnamed, misnaming, ruled, carried, judged, step}
 use Rattle.mender.specs.Walk.{mended}
-use Rattle.mender.specs.Walks.{standing, size, Walks, end, opcode}
+use Rattle.forms.specs.Layout.{sizeIn}
+use Rattle.mender.specs.Walks.{standing, Walks, end, opcode}
 use Rattle.mender.proofs.Afterwards.{mended-walks}
 
 -- ---- a step is carried out, or refused with 23 or more
@@ -65,10 +66,10 @@ module _ (w : List ℕ) where
 -- the places of the walk from word 0
 pub data Place (w : List ℕ) : ℕ → Type 0 where
   first : Place w 0
-  next : {pc : ℕ} → Place w pc → Place w (pc + size (standing w pc))
+  next : {pc : ℕ} → Place w pc → Place w (pc + sizeIn (standing w pc))
 
-onward : {w : List ℕ} {pc : ℕ} → Walks w pc → Walks w (pc + size (standing w pc))
-onward {w} {pc} (end h) = end {pc = pc + size (standing w pc)} (omega arith)
+onward : {w : List ℕ} {pc : ℕ} → Walks w pc → Walks w (pc + sizeIn (standing w pc))
+onward {w} {pc} (end h) = end {pc = pc + sizeIn (standing w pc)} (omega arith)
 onward (opcode known whole on) = on
 
 pub from-place : {w : List ℕ} {pc : ℕ} → Walks w 0 → Place w pc → Walks w pc

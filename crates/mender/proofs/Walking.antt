@@ -11,8 +11,8 @@ use Rattle.rules.specs.Meaning.{Meaning, Unknown, Known, meaning}
 use Rattle.rules.specs.Table.{formOf}
 use Rattle.rules.specs.Step.{unknown}
 use Rattle.forms.specs.declared.layout.Layout.{Layout}
-use Rattle.forms.specs.Layout.{layoutAt, words}
-use Rattle.forms.proofs.Layouts.{none, sizeIn, sized, some-words, strange}
+use Rattle.forms.specs.Layout.{layoutAt, words, sizeIn}
+use Rattle.forms.proofs.Layouts.{none, sized, some-words, strange}
 use Rattle.mender.specs.declared.walk.Phase.{Phase}
 use Rattle.mender.specs.declared.walk.Phase.the-variants.{Inside, Cut}
 use Rattle.mender.specs.declared.walk.Passed.{Passed}

@@ -4,20 +4,17 @@ use mathlib.Core.Path.{_≡_}
 use mathlib.Core.Bool.{false}
 use mathlib.Core.List.{List}
 use lib.ListN.{length}
-use Rattle.rules.specs.Meaning.{Meaning, Unknown, Known, meaning}
+use Rattle.rules.specs.Meaning.{Meaning, meaning}
 use Rattle.rules.specs.Table.{formOf}
-use Rattle.rules.specs.Operands.{at, sizeOf}
+use Rattle.rules.specs.Operands.{at}
 use Rattle.rules.specs.Step.{unknown, cut}
+use Rattle.forms.specs.Layout.{sizeIn}
 
--- what stands at word pc, and how many words it has; what is no opcode stands by itself
+-- what stands at word pc
 abbrev pub standing : List ℕ → ℕ → Meaning
 standing w pc = meaning (formOf (at w pc))
-
-abbrev pub size : Meaning → ℕ
-size Unknown = 1
-size (Known op s) = sizeOf s
 
 -- from word pc on
 pub data Walks (w : List ℕ) : ℕ → Type 0 where
   end : {pc : ℕ} → length w ≤ pc → Walks w pc
-  opcode : {pc : ℕ} → unknown (standing w pc) ≡ false → cut (standing w pc) w pc ≡ false → Walks w (pc + size (standing w pc)) → Walks w pc
+  opcode : {pc : ℕ} → unknown (standing w pc) ≡ false → cut (standing w pc) w pc ≡ false → Walks w (pc + sizeIn (standing w pc)) → Walks w pc
