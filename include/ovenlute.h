@@ -22,12 +22,13 @@ extern "C" {
 #define OVENLUTE_REPEATS 8            /* the most that are open */
 #define OVENLUTE_MOST_PASSES 1000     /* of a repeat */
 #define OVENLUTE_MOST_DOTS 65536      /* of a line: the largest length that ovenlute_lit takes */
+#define OVENLUTE_CHANGE_NUMBERS 3     /* of a report: what a change takes in it */
 
 /* The numbers that come back; each comment is what ovenlute_text says of it. 10 to 14 are of a call: nothing is done, and
    environment and screen are as they were. 20 to 29 are of an opcode: it was not carried out and changed nothing, those before
    it stand, and the environment is stopped for good: it answers this number again, with its place. Only the 25 of ovenlute_lit and
    of ovenlute_who is of its call and of no opcode, and ovenlute_check, which carries nothing out, tells 20 to 29 of what it reads.
-   30 and 31 are ovenlute_check's alone. */
+   30 and 31 are ovenlute_check's alone, and 32 is ovenlute_mend's: list and report are as they were. */
 enum ovenlute_number {
     OVENLUTE_ENDED = 0,          /* the list has ended */
     OVENLUTE_BUDGET = 1,         /* the budget is used up, the list still runs */
@@ -47,7 +48,8 @@ enum ovenlute_number {
     OVENLUTE_STACK_FULL = 28,    /* a call with 16 returns stacked, or a repeat with eight open */
     OVENLUTE_STACK_EMPTY = 29,   /* a return with none stacked, or the end of a repeat with none open */
     OVENLUTE_END_INSIDE = 30,    /* an EODL inside a repeat */
-    OVENLUTE_MANY_STEPS = 31     /* more than 1,000,000 steps are needed */
+    OVENLUTE_MANY_STEPS = 31,    /* more than 1,000,000 steps are needed */
+    OVENLUTE_NO_ROOM = 32        /* the report has no room for every change */
 };
 
 /* The state of an environment: one of these, or the number that it was stopped with, 20 to 29. */
@@ -120,6 +122,11 @@ struct ovenlute_checked {
     uint32_t steps;         /* 0: the opcodes that a run carries out, its EODL among them, 1 to 1,000,000; else 0 */
 };
 
+struct ovenlute_mended {
+    uint8_t number;
+    uint32_t changes;       /* 0: how many words were changed; 32: how many would be; 13: 0 */
+};
+
 struct ovenlute_writer {
     uint8_t number;
     uint8_t colour;         /* that the step painted; 0 where no step did */
@@ -137,8 +144,9 @@ struct ovenlute_words {
     char text[127];         /* the words and zeros behind them, at least one: a C string */
 };
 
-/* Any of the six may be called from several threads at once on different environments and screens: nothing is kept between
-   calls but what is lent. Lists that share a screen take turns. None allocates, and none needs more than 2 KiB of stack. */
+/* Any of the seven may be called from several threads at once on different environments, screens and reports: nothing is kept
+   between calls but what is lent. Lists that share a screen take turns, and nobody else reads a list while it is mended. None
+   allocates, and none needs more than 2 KiB of stack. */
 
 /* A fresh environment for a screen of that size and a pane in it: variables 0, position (0, 0), origin (0, 0), colour 15, clip
    mode 0, window the whole screen, pattern all ones, counter 0, no repeat open, running. Numbers: 0; 10 for a bad size; 12 for a
@@ -171,6 +179,21 @@ struct ovenlute_done ovenlute_run(const uint16_t *list, size_t words, uint8_t *s
    - 20, 22, 24, 28 and 29 are what a run from a fresh environment answers there, unless one of 23 to 26 stops it sooner.
    With length 0 the list may be NULL. */
 struct ovenlute_checked ovenlute_check(const uint16_t *list, size_t words);
+
+/* Mends a list that was read off a bad EPROM, in place, so that it can be walked: from word 0, opcode after opcode, through its
+   end, an EODL passed like any other. A word that is no opcode where one is due becomes 0000, a NOOP, and the walk goes on at the
+   next word. An opcode that the list's end cuts has its first word made 0001, an EODL, and the rest 0000. Numbers: 0; 13; then 32
+   where the report has no room for every change. With 13 and 32 list and report are as they were.
+   - The report has each word that differs afterwards, and no other, in rising order: its index, the old word and the new one, three
+     numbers a change (OVENLUTE_CHANGE_NUMBERS), one change behind the other from the start. What lies behind the last is as it was.
+   - `numbers` is the report's room: 3 x changes are needed, and there may be more. With 32 `changes` tells how many there are, so a
+     host may ask with NULL and 0, and then lend what is needed. No list needs more than 196,608.
+   - Afterwards such a walk meets nothing that a run would refuse with 21 or 22. A second mending changes nothing, and a list whose
+     walk met nothing of the kind is unchanged. Words keep their indices, so targets fit as they did.
+   - Not promised: that the list is the one that was burnt, or that a run of it ends well. No operand is judged, so a value may be
+     wrong, and a jump may still lead into the middle of an opcode or out of the list.
+   List and report may not overlap. With length 0 either may be NULL. */
+struct ovenlute_mended ovenlute_mend(uint16_t *list, size_t words, uint32_t *report, size_t numbers);
 
 /* Who painted this dot: which step of a run last wrote it, counted from 1, with the word index of its opcode and the colour that it
    painted. It is the very run that ovenlute_run makes with the same list, environment and budget, and no screen is asked for: the

@@ -63,6 +63,10 @@ _Static_assert(offsetof(struct ovenlute_checked, number) == 0, "checked.number")
 _Static_assert(offsetof(struct ovenlute_checked, place) == 4, "checked.place");
 _Static_assert(offsetof(struct ovenlute_checked, steps) == 8, "checked.steps");
 
+_Static_assert(sizeof(struct ovenlute_mended) == 8, "mended");
+_Static_assert(offsetof(struct ovenlute_mended, number) == 0, "mended.number");
+_Static_assert(offsetof(struct ovenlute_mended, changes) == 4, "mended.changes");
+
 _Static_assert(sizeof(struct ovenlute_writer) == 12, "writer");
 _Static_assert(offsetof(struct ovenlute_writer, number) == 0, "writer.number");
 _Static_assert(offsetof(struct ovenlute_writer, colour) == 1, "writer.colour");
