@@ -44,6 +44,11 @@ struct afgis_checked {
     uint32_t steps;                     /* 0: "the steps needed to the EODL"; else 0 */
 };
 
+struct afgis_mended {
+    int number;
+    uint32_t changes;                   /* 0: how many words were changed; 32: how many would be; 13: 0 */
+};
+
 struct afgis_lit_dots {
     int number;
     uint32_t count;                     /* how many dots light up */
@@ -70,6 +75,9 @@ struct afgis_answer afgis_run(const uint16_t *list, size_t words, uint8_t *scree
 
 /* 02's T-09: whether a list surely finishes, and in how many steps: 0, or 13, 20 to 22, 24 or 28 to 31. */
 struct afgis_checked afgis_check(const uint16_t *list, size_t words);
+
+/* 02's T-14: mends a list "off bad EPROMs" and reports each change in three numbers, index, old word and new word: 0, 13 or 32. */
+struct afgis_mended afgis_mend(uint16_t *list, size_t words, uint32_t *report, size_t numbers);
 
 /* 02's T-04: how many dots of a dashed line light up, "from length in dots and pattern alone": 0 and the count, or 25 and 0. */
 struct afgis_lit_dots afgis_lit(uint32_t length, uint32_t pattern);

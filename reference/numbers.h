@@ -21,7 +21,8 @@ enum {
     STACK_FULL = 28,
     STACK_EMPTY = 29,
     END_INSIDE = 30,
-    MANY_STEPS = 31
+    MANY_STEPS = 31,
+    NO_ROOM = 32
 };
 
 enum {
