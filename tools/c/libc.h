@@ -18,7 +18,7 @@ unsigned long long strtoull(const char *text, char **end, int base);
 
 /* ---- Linux on x86-64 ---- */
 
-enum { PROT_READ = 1, MAP_PRIVATE = 0x02, MAP_ANONYMOUS = 0x20, MAP_NORESERVE = 0x4000 };
+enum { PROT_READ = 1, PROT_WRITE = 2, MAP_PRIVATE = 0x02, MAP_FIXED = 0x10, MAP_ANONYMOUS = 0x20, MAP_NORESERVE = 0x4000 };
 #define MAP_FAILED ((void *)-1)
 
 void *mmap(void *place, size_t bytes, int protection, int flags, int file, long offset);

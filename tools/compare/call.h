@@ -15,7 +15,7 @@ enum { DOTS_ASKED = 3 };
 
 /* Whatever is counted belongs to one of these groups. A call has at most one member of each, but for those from CLEARINGS on:
    those are counted for each CLRWIN, each line, each circle, each origin and each repeat on its way, for its list, and for each
-   dot that is asked for. */
+   dot that is asked for. Those from MENDED on are no call's: they are counted for each mending, or once for each list mended. */
 enum group {
     CALLS, LISTS, ENVIRONMENTS, BROKEN_FIELDS, SIZES, PANES, WINDOWS, MODES, BUDGETS, SCREENS,
     DOOR_PAIRS, OPCODE_PAIRS, PROFILES, SLICED, SLICES, FRESH_CALLS, NUMBERS, PLACES, MISNAMED, CLEARINGS, LINES, HALVES, CUTS,
@@ -25,6 +25,7 @@ enum group {
     OPEN_REPEATS, REPEAT_FIELDS, REPEATS_OPENED, COUNTS, REFUSED_REPEATS, WENT_BACK, CLOSED, PASSES, WITH_REPEATS, SLICED_REPEATS,
     CHECKED, CHECKED_STEPS, CHECKED_DEPTHS, CHECKED_ENDS, CHECKED_21, CHECKED_CUTS, CHECKED_COUNTS, CHECKED_RUNS,
     WHO_NUMBERS, WHO_OUTSIDE, WHO_SOONER, WHO_DOTS, WHO_WRITERS, WHO_STEPS, WHO_BEFORE, WHO_RUNS, WHO_OF_NOBODY,
+    MENDED, MENDED_REPORTS, MENDED_LISTS, MENDED_CHANGES, MENDED_UNKNOWN, MENDED_CUTS,
     GROUPS
 };
 
@@ -232,6 +233,37 @@ enum { BEFORE_UNWRITTEN, BEFORE_UNWRITTEN_SAME, BEFORE_WRITTEN, BEFORE_WRITTEN_S
 /* How the run went in which a step wrote the dot, or none did: the list ends, runs on, is refused later, or isn't run with 11 but
    asked all the same; where none did, also an environment that had ended or was stopped, and a budget of 0. */
 enum { WHO_RUN_ENDS, WHO_RUN_GOES_ON, WHO_RUN_REFUSED, WHO_RUN_11, WHO_HAD_ENDED, WHO_WAS_STOPPED, WHO_NO_BUDGET };
+
+/* What a mending answered; and 13 where the report would have no room either. */
+enum { MENDED_0, MENDED_13, MENDED_32, MENDED_13_AND_32 };
+
+/* The report that it was lent: none at NULL or of no numbers, where there is something to mend or nothing; one around what the
+   changes need, from a whole change less to four numbers more; a larger one, or one whose numbers are 2^32 more. */
+enum {
+    REPORT_NULL, REPORT_NULL_NOT_NEEDED, REPORT_NONE, REPORT_NONE_NOT_NEEDED, REPORT_CHANGE_SHORT,
+    REPORT_EXACT = REPORT_CHANGE_SHORT + 3, REPORT_LARGER = REPORT_EXACT + 5, REPORT_PAST_32_BITS
+};
+
+/* What was done to a list of whole opcodes that is mended: nothing; words overwritten, bits flipped, a stretch erased to FFFF, its
+   tail lost inside an opcode, every word overwritten, or all of this but the last; it has no words; it is one word and erased ones
+   behind it; and, of 65,536 words, nothing, words overwritten, its tail lost or every word erased; or it has one word more. */
+enum {
+    DAMAGE_NONE, DAMAGE_WORDS, DAMAGE_BITS, DAMAGE_ERASED, DAMAGE_TAIL, DAMAGE_ANY_WORDS, DAMAGE_MUCH, DAMAGE_NO_WORDS,
+    DAMAGE_OPCODE_WORD, DAMAGE_LONGEST_NONE, DAMAGE_LONGEST_WORDS, DAMAGE_LONGEST_TAIL, DAMAGE_LONGEST_ERASED, DAMAGE_TOO_LONG
+};
+
+/* How many words had to be changed. */
+enum { CHANGES_NONE, CHANGES_1, CHANGES_TO_9, CHANGES_TO_99, CHANGES_ABOVE, CHANGES_MOST };
+
+/* A word that is no opcode where one is due: any, the first of the list, the last, right behind another one, behind an EODL, or at
+   index 65,535. */
+enum { UNKNOWN_ANY, UNKNOWN_FIRST, UNKNOWN_LAST, UNKNOWN_AGAIN, UNKNOWN_BEHIND_EODL, UNKNOWN_AT_65535 };
+
+/* An opcode cut by the end: what the rest of it is; and one that is all there is, or behind such a word, or behind an EODL, or in
+   the longest list. */
+enum {
+    REST_NONE, REST_ZEROS, REST_SOME_ZEROS, REST_NO_ZEROS, CUT_IS_ALL, CUT_BEHIND_UNKNOWN, CUT_BEHIND_EODL, CUT_OF_LONGEST
+};
 
 enum { NOT_OF_A_KIND = -1, NO_EXPECTATION = -1 };
 

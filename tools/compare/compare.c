@@ -1,6 +1,6 @@
 /*
- * Runs the box (include/ovenlute.h) and the reference (reference/afgis.c) on the same calls, made at
- * random from a seed, and compares every answer whole. Exit status 1 on a difference or a kind never met.
+ * Runs the box (include/ovenlute.h) and the reference (reference/afgis.h) on the same calls and has both mend the same lists, made
+ * at random from a seed, and compares every answer whole. Exit status 1 on a difference or a kind never met.
  */
 
 #include "check.h"
@@ -8,11 +8,13 @@
 #include "libc.h"
 #include "lit.h"
 #include "make.h"
+#include "mended.h"
 #include "random.h"
 #include "shrink.h"
 #include "slices.h"
+#include "walked.h"
 
-enum { DEFAULT_SEED = 1, DEFAULT_CALLS = 500000, LONG_RUNS = 12 };
+enum { DEFAULT_SEED = 1, DEFAULT_CALLS = 500000, LONG_RUNS = 12, CALLS_A_LIST = 10 };
 
 /* ---- one call ---- */
 
@@ -176,10 +178,19 @@ static int huge_reference_who(const struct afgis_env *env, const struct call *ca
     return writer.number;
 }
 
+/* A list of zeros or one that is too long: nothing is written. */
+static int is_mended_alike(uint16_t *list, size_t words)
+{
+    struct ovenlute_mended box = ovenlute_mend(list, words, NULL, 0);
+    struct afgis_mended reference = afgis_mend(list, words, NULL, 0);
+
+    return box.number == reference.number && box.changes == 0 && reference.changes == 0;
+}
+
 /* A call that must be refused at the door with this number; its list and screen can only be read. */
 static void check_huge_call(const struct call *call, uint8_t *room, size_t words, size_t bytes, int number)
 {
-    const uint16_t *list = (const uint16_t *)room;
+    uint16_t *list = (uint16_t *)room;
     uint8_t *screen = room + 3 * PAST_32_BITS;
     struct ovenlute_env env = call->env;
     struct ovenlute_done done = ovenlute_run(list, words, screen, bytes, &env, call->budget);
@@ -194,7 +205,7 @@ static void check_huge_call(const struct call *call, uint8_t *room, size_t words
     count_call(call, done.number, done.place);
     is_right = done.number == number && done.place == 0 && done.steps == 0 && same_env(&env, &call->env)
         && answer.number == number && answer.place == 0
-        && checked.number == afgis_check(list, words).number
+        && checked.number == afgis_check(list, words).number && is_mended_alike(list, words)
         && who == (number == 11 ? 0 : number) && who == huge_reference_who(&reference_env, call, list, words);
     if (!is_right && is_shown())
         printf("difference: %llu words and %llu bytes: box %d, reference %d, wanted %d\n", (unsigned long long)words,
@@ -248,7 +259,8 @@ int main(int count, char **arguments)
         check_something();
     check_long_runs();
     check_lit();
-    never = print_counts();
+    check_mending(calls / CALLS_A_LIST);
+    never = print_counts() + print_walks();
     printf("seed %llu, %llu calls, %llu differences, %d kinds never met\n", seed,
            (unsigned long long)calls_counted(), differences_counted(), never);
     return differences_counted() != 0 || never != 0;

@@ -132,6 +132,17 @@ static const struct {
     [WHO_RUNS] = { "written in a run that", { "ends", "runs on", "is refused", "is 11" } },
     [WHO_OF_NOBODY] = { "not written in a run that", { "ends", "runs on", "is refused", "is 11", "had ended", "was stopped",
                                                        "has no budget" } },
+    [MENDED] = { "mended", { "0", "13", "32", "13 and no room" } },
+    [MENDED_REPORTS] = { "by a report", { "at NULL", "at NULL, not needed", "of no numbers", "of no numbers, not needed",
+                                          "a change short", "2 numbers short", "1 short", "exact", "1 more", "2 more", "3 more", "4 more", "larger",
+                                          "2^32 more" } },
+    [MENDED_LISTS] = { "lists mended", { "whole opcodes", "words overwritten", "bits flipped", "a stretch erased", "the tail lost",
+                                         "any words", "much of this", "no words", "each word", "65536 words",
+                                         "65536, some overwritten", "65536, the tail lost", "65536, all erased", "65537" } },
+    [MENDED_CHANGES] = { "words changed", { "0", "1", "2 to 9", "10 to 99", "100 to 65535", "65536" } },
+    [MENDED_UNKNOWN] = { "no opcode", { "any", "the first word", "the last", "behind another", "behind an EODL", "at 65535" } },
+    [MENDED_CUTS] = { "cut by the end", { "no rest", "a rest of zeros", "of zeros and others", "of no zeros", "all there is",
+                                          "behind such a word", "behind an EODL", "in 65536 words" } },
 };
 
 static uint64_t kinds_met[GROUPS][MOST_MEMBERS];

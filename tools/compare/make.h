@@ -1,4 +1,4 @@
-/* Makes calls at random: of every kind, with values near every edge. */
+/* Makes calls, and lists to be mended, at random: of every kind, with values near every edge. */
 #ifndef MAKE_H
 #define MAKE_H
 
@@ -13,6 +13,13 @@ struct circle {
 struct request {
     uint32_t width, height;
     struct ovenlute_pane pane;
+    int kind;
+};
+
+/* A list to be mended, and what was done to it: one of the damages (call.h). */
+struct damaged {
+    uint16_t list[LIST_ROOM];
+    size_t words;
     int kind;
 };
 
@@ -39,6 +46,15 @@ void make_request(struct request *request);
 /* Makes the dots of a call by what its run has left: dots that it painted and those beside them, points of the opcode at which it
    stands, any dot of the screen, the corners of screen, pane and window, and dots outside. */
 void make_dots(struct call *call, const struct ovenlute_env *after, const uint8_t *screen);
+
+/* A list of whole opcodes to which a damage was done, or none; or one without a word. */
+void make_damaged(struct damaged *damaged);
+
+/* This word, and behind it erased ones, as many as an opcode may have. */
+void make_damaged_word(struct damaged *damaged, uint16_t word);
+
+/* A list of 65,536 words, or of one more, with this damage. */
+void make_longest_damaged(struct damaged *damaged, int kind);
 
 /* Sets a call's budget, and its kind. */
 void set_budget(struct call *call, uint32_t budget);

@@ -1,6 +1,6 @@
 #include "random.h"
 
-static uint64_t states[STREAMS] = { 1, 1 };
+static uint64_t states[STREAMS] = { 1, 1, 1 };
 static enum stream drawn_from = STREAM_OF_CALLS;
 
 void draw_from(enum stream stream)
@@ -18,6 +18,7 @@ static void start_stream(enum stream stream, uint64_t state)
 
 void random_seed(uint64_t seed)
 {
+    start_stream(STREAM_OF_LISTS, seed ^ 0x8CB92BA72F3D8DD7u);
     start_stream(STREAM_OF_DOTS, seed ^ 0xD1B54A32D192ED03u);
     start_stream(STREAM_OF_CALLS, seed ^ 0x9E3779B97F4A7C15u);
 }

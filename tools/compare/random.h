@@ -4,10 +4,10 @@
 
 #include <stdint.h>
 
-/* Two streams: what is asked of a call does not change the calls that follow, those of a seed stay the same. */
-enum stream { STREAM_OF_CALLS, STREAM_OF_DOTS, STREAMS };
+/* Streams: what is asked of a call, or mended, does not change the calls that follow, those of a seed stay the same. */
+enum stream { STREAM_OF_CALLS, STREAM_OF_DOTS, STREAM_OF_LISTS, STREAMS };
 
-/* Both begin by the seed; the calls' is drawn from. */
+/* All begin by the seed; the calls' is drawn from. */
 void random_seed(uint64_t seed);
 
 /* The stream that is drawn from until it is told otherwise. */
