@@ -65,6 +65,7 @@ fn opcode_words(number: u8) -> Words
         ),
         30 => told(number, 30, b"an EODL inside a repeat"),
         31 => told(number, 31, b"more than 1,000,000 steps are needed"),
+        32 => told(number, 32, b"the report has no room for every change"),
         _ => other(number),
     }
 }
