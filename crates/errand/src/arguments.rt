@@ -1,5 +1,5 @@
-// What the arguments ask for: check LIST; who LIST WIDTH HEIGHT X Y [LEFT TOP RIGHT BOTTOM] [BUDGET]; or a form of the picture, and
-// behind it [painted] LIST WIDTH HEIGHT [LEFT TOP RIGHT BOTTOM] [BUDGET] or [painted] page PAGE WIDTH HEIGHT [BUDGET].
+// What the arguments ask for: check LIST; mend LIST; who LIST WIDTH HEIGHT X Y [LEFT TOP RIGHT BOTTOM] [BUDGET]; or a form of the
+// picture, and behind it [painted] LIST WIDTH HEIGHT [LEFT TOP RIGHT BOTTOM] [BUDGET] or [painted] page PAGE WIDTH HEIGHT [BUDGET].
 use crate::number::is_number;
 use crate::number::number;
 use crate::say::no_number;
@@ -39,12 +39,13 @@ pub struct Given {
     pub budget: u32,
 }
 
-// A list or a page to play; a list to check, whose name is that argument; a list and the dot, its column and row, whose painter is
-// to be named.
+// A list or a page to play; a list to check or to mend, whose name is that argument; a list and the dot, its column and row, whose
+// painter is to be named.
 pub enum Wish {
     List(Given, Look),
     Page(Given, Look),
     Check(usize),
+    Mend(usize),
     Who(Given, u32, u32),
     Wrong,
 }
@@ -55,6 +56,9 @@ pub const BUDGET: u32 = 1_000_000;
 pub fn asked() -> Wish {
     if is(1, b"check") {
         return check_asked(2);
+    }
+    if is(1, b"mend") {
+        return mend_asked(2);
     }
     if is(1, b"who") {
         return who_asked(2);
@@ -129,6 +133,13 @@ fn picture_asked(first: usize, look: Look) -> Wish
 fn check_asked(first: usize) -> Wish {
     if from(first) == 1 {
         return Wish::Check(first);
+    }
+    wrong()
+}
+
+fn mend_asked(first: usize) -> Wish {
+    if from(first) == 1 {
+        return Wish::Mend(first);
     }
     wrong()
 }

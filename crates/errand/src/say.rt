@@ -7,7 +7,7 @@ pub fn say(text: &[u8]) {
 
 pub fn usage() {
     say(
-        b"usage: play FORM [painted] LIST WIDTH HEIGHT [LEFT TOP RIGHT BOTTOM] [BUDGET], or play FORM [painted] page PAGE WIDTH HEIGHT [BUDGET], or play check LIST, or play who LIST WIDTH HEIGHT X Y [LEFT TOP RIGHT BOTTOM] [BUDGET]; FORM is ppm, png, or cells COLUMNS ROWS BITS\n",
+        b"usage: play FORM [painted] LIST WIDTH HEIGHT [LEFT TOP RIGHT BOTTOM] [BUDGET], or play FORM [painted] page PAGE WIDTH HEIGHT [BUDGET], or play check LIST, or play mend LIST, or play who LIST WIDTH HEIGHT X Y [LEFT TOP RIGHT BOTTOM] [BUDGET]; FORM is ppm, png, or cells COLUMNS ROWS BITS\n",
     );
 }
 
