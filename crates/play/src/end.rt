@@ -2,8 +2,8 @@
 ghost use mathlib.Core.Path.{_≡_};
 ghost use Rattle.play.specs.Ends.{noneYet, withNumber, endOf};
 
-// There is a picture, the list surely finishes, or it is told who painted the dot; there is none, it may not, or the question is
-// refused; the arguments are wrong; there is a picture, but a list was stopped.
+// There is a picture, the list surely finishes, the mended one is written, or it is told who painted the dot; there is none, it may
+// not, it is not, or the question is refused; the arguments are wrong; there is a picture, but a list was stopped.
 pub enum End {
     Done,
     Nothing,

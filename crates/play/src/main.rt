@@ -1,13 +1,12 @@
-// Plays lists on a screen of zeros, checks one, or asks who painted a dot: the picture, how many steps a list takes, or who it was
-// goes to standard output, a line for each list that is played or refused to standard error, and how it ended to descriptor 3.
-mod check; // whether a list surely finishes
+// Plays lists on a screen of zeros, checks or mends one, or asks who painted a dot: the picture, how many steps a list takes, the
+// mended list, or who it was goes to standard output, a line for each list that is played or refused and for each word that is
+// mended to standard error, and how it ended to descriptor 3.
 mod end; // how it ended
 mod page; // the lists of a page
 mod report; // a line for each list
 mod slices; // runs the lists of a page in turn
 mod writer; // who painted a dot
 
-use check::check_list;
 use end::End;
 use end::end_of;
 use end::tell;
@@ -28,6 +27,8 @@ use page::page_of;
 use page::with_list;
 use report::report;
 use slices::rounds;
+use unplayed::check::check_list;
+use unplayed::mend::mend_list;
 use writer::name_writer;
 ghost use mathlib.Core.Path.{_≡_};
 ghost use Prim.Native.Nat.{_*_};
@@ -48,7 +49,8 @@ fn play(words: &mut [u16; WORDS]) -> End {
     match form {
         Wish::List(given, look) => play_list(given, look, words),
         Wish::Page(given, look) => play_page(given, look, words),
-        Wish::Check(at) => check_list(at, words),
+        Wish::Check(at) => only_if(check_list(at, words), End::Done),
+        Wish::Mend(at) => only_if(mend_list(at, words), End::Done),
         Wish::Who(given, x, y) => name_writer(given, x, y, words),
         Wish::Wrong => End::Wrong,
     }
@@ -122,13 +124,13 @@ fn run(page: Page, names: &[u8], given: Given, look: Look, words: &[u16], room: 
     let end = end_of(report(names, words, last));
     match end {
         End::Nothing => end,
-        _ => written(write(screen, given.width, given.height, form), end),
+        _ => only_if(write(screen, given.width, given.height, form), end),
     }
 }
 
-// Where the picture could not be written there is none.
-fn written(whole: bool, end: End) -> End {
-    if whole { end } else { End::Nothing }
+// Where it was not done, as where the picture could not be written, there is nothing.
+fn only_if(done: bool, end: End) -> End {
+    if done { end } else { End::Nothing }
 }
 
 fn area(width: u32, height: u32) -> usize

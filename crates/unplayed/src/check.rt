@@ -1,5 +1,4 @@
 // Tells whether a list surely finishes: to standard output in how many steps it does, or to standard error why it may not.
-use crate::end::End;
 use checker::Checked;
 use errand::file::Read;
 use errand::file::load_list;
@@ -9,26 +8,26 @@ use errand::span::words_of;
 use libc::STDOUT_FILENO;
 use messages::place::tell_fault;
 
-// The list whose name is argument `at`.
-pub fn check_list(at: usize, words: &mut [u16]) -> End {
+// The list whose name is argument `at`; answers whether it surely finishes.
+pub fn check_list(at: usize, words: &mut [u16]) -> bool {
     let mut room = io::buffer();
     let n = os::arg(at, &mut room);
     let name = bytes_of(&room, Span { from: 0, to: n });
     let Read::To(to) = load_list(name, name, words, 0) else {
-        return End::Nothing;
+        return false;
     };
     judged(name, words_of(words, Span { from: 0, to }))
 }
 
-fn judged(name: &[u8], list: &[u16]) -> End {
+fn judged(name: &[u8], list: &[u16]) -> bool {
     let checked = checked(list);
     let number = checked.number;
     if number != 0 {
         tell_fault(name, list, number, checked.place);
-        return End::Nothing;
+        return false;
     }
     tell_steps(name, checked.steps);
-    End::Done
+    true
 }
 
 // What the checker says, with none of its promises: no proof here leans on them.
