@@ -29,6 +29,13 @@ clean w = mends 0 w room w room
 
 abbrev pub cases : List Case
 cases =
+    -- room for every change, or 32, which tells how many there are
+    mends 1 (0xFFFF ∷ []) (9 ∷ 9 ∷ 9 ∷ []) (0x0000 ∷ []) (0 ∷ 0xFFFF ∷ 0 ∷ []) ∷
+    refuses 32 1 (0xFFFF ∷ []) (9 ∷ 9 ∷ []) ∷
+    refuses 32 1 (0xFFFF ∷ []) [] ∷
+    refuses 32 3 (0xFFFF ∷ 0xFFFE ∷ 0xFFFD ∷ []) room ∷
+    mends 0 (0x0001 ∷ []) [] (0x0001 ∷ []) [] ∷
+    -- nothing to mend
     clean [] ∷
     clean (0x0001 ∷ []) ∷
     clean (0x0000 ∷ 0x0000 ∷ []) ∷
@@ -46,16 +53,13 @@ cases =
     mends 1 (0x0000 ∷ 0x00B7 ∷ []) room (0x0000 ∷ 0x0001 ∷ []) (1 ∷ 0x00B7 ∷ 1 ∷ 9 ∷ 9 ∷ 9 ∷ 9 ∷ []) ∷
     mends 2 (0x0012 ∷ 0x0000 ∷ 0x0000 ∷ 0x0003 ∷ []) room (0x0001 ∷ 0x0000 ∷ 0x0000 ∷ 0x0000 ∷ []) (0 ∷ 0x0012 ∷ 1 ∷ 3 ∷ 0x0003 ∷ 0 ∷ 9 ∷ []) ∷
     mends 2 (0x0100 ∷ 0x0100 ∷ []) room (0x0001 ∷ 0x0000 ∷ []) (0 ∷ 0x0100 ∷ 1 ∷ 1 ∷ 0x0100 ∷ 0 ∷ 9 ∷ []) ∷
-    -- room for every change, or 32, which tells how many there are
-    mends 1 (0xFFFF ∷ []) (9 ∷ 9 ∷ 9 ∷ []) (0x0000 ∷ []) (0 ∷ 0xFFFF ∷ 0 ∷ []) ∷
-    refuses 32 1 (0xFFFF ∷ []) (9 ∷ 9 ∷ []) ∷
-    refuses 32 1 (0xFFFF ∷ []) [] ∷
-    refuses 32 3 (0xFFFF ∷ 0xFFFE ∷ 0xFFFD ∷ []) room ∷
-    mends 0 (0x0001 ∷ []) [] (0x0001 ∷ []) [] ∷
-    -- 13 comes first
-    refuses 13 0 (replicate 65537 0xFFFF) [] ∷
     []
 
 pub all : map (λ (c : Case). mending (c .list) (c .report)) cases ≡ map (λ (c : Case). c .want) cases
 unfolding formOf passing mendedFrom mended changesFrom numbers mending
 all = refl
+
+-- 13 comes first; by itself, as it computes 65,537 words
+pub too-long : mending (replicate 65537 0xFFFF) [] ≡ left 13 0 (replicate 65537 0xFFFF) []
+unfolding mending
+too-long = refl
