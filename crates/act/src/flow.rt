@@ -17,7 +17,7 @@ use numbers::place::{BitAddress, Target, WordIndex, word_at, word_from};
 use player::Upshot;
 use rules::opcode::Operands;
 
-#[derive(Drop)]
+#[derive(Clone, Copy)]
 pub enum Condition {
     NotAllowed,
     Met,
@@ -47,7 +47,7 @@ fn condition_of(k: u32, first: u32, second: u32) -> Condition
 }
 
 // How a jump gives its target: its bit address, or the offset in words from the next opcode.
-#[derive(Drop)]
+#[derive(Clone, Copy)]
 enum Aim {
     Address,
     Offset,

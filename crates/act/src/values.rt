@@ -50,7 +50,7 @@ pub fn load(t: Taken, cells: &mut Cells, vars: &mut [u32; 64]) -> Upshot
 }
 
 // What is made of Vd's value and the operand.
-#[derive(Drop)]
+#[derive(Clone, Copy)]
 enum Calculation {
     Sum,
     And,

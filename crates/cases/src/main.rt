@@ -1,4 +1,5 @@
 // Runs a file of cases through the box and prints every answer whole. FORMAT.md has the file's format and the answer's layout.
+#![tactic(auto)]
 mod answer; // prints an answer
 mod checked; // checks the list
 mod command; // carries a line out

@@ -1,4 +1,5 @@
 // Document 02, T-09, a profile that surely finishes: a list is read without being played, and the steps to its EODL are stated.
+#![tactic(auto)]
 mod sums; // steps, kept within 32 bits
 mod reading; // sequences of opcodes and blocks
 
@@ -12,7 +13,7 @@ use player::{Verdict, carrying_0};
 // What is stated of a list: 0 and the steps to its EODL; or the number that it is refused with, 0 steps and, with 20 to 30, the index of
 // the word at fault. All other numbers carry 0.
 #[repr(C)]
-#[derive(Drop)]
+#[derive(Clone, Copy)]
 pub struct Checked {
     pub number: u8,
     pub place: WordIndex,

@@ -14,7 +14,7 @@ use numbers::value::extend;
 use player::Verdict;
 
 // What a sequence comes to: a fault; or the EODL or ERPT that closes it, where that stands, and the steps before it.
-#[derive(Drop)]
+#[derive(Clone, Copy)]
 pub enum Reading {
     Fault(Verdict),
     Eodl(WordIndex, u32),
@@ -22,7 +22,7 @@ pub enum Reading {
 }
 
 // What a block comes to: a fault; or the index behind it and its steps.
-#[derive(Drop)]
+#[derive(Clone, Copy)]
 pub enum Closed {
     Broken(Verdict),
     Behind(WordIndex, u32),

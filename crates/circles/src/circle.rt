@@ -15,7 +15,7 @@ use raster::dots::Dot;
 use raster::frame::Frame;
 use raster::rect::{Rect, rect_of};
 
-#[derive(Drop)]
+#[derive(Clone, Copy)]
 pub struct Circle {
     pub centre: Dot,
     pub radius: i32,

@@ -6,7 +6,7 @@ ghost use Rattle.desk.specs.Commands.{command_of, named as commandNamed, asked a
 use crate::fault::{Fault, Outcome};
 use text::items::{count, item, place_in};
 
-#[derive(Drop)]
+#[derive(Clone, Copy)]
 pub enum Command {
     Nothing,
     Heading,

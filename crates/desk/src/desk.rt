@@ -8,7 +8,7 @@ use rules::environment::Env;
 
 // The environment and the budget of the next run, how many words of the list's room are the list, and how many bytes of the
 // screen's room are lent.
-#[derive(Drop)]
+#[derive(Clone, Copy)]
 pub struct Desk {
     pub env: Env,
     pub budget: u32,
@@ -17,7 +17,7 @@ pub struct Desk {
 }
 
 // What a line that was carried out leaves: the desk, and whether the line could be read.
-#[derive(Drop)]
+#[derive(Clone, Copy)]
 pub struct Carried {
     pub desk: Desk,
     pub outcome: Outcome,

@@ -4,7 +4,7 @@ ghost use Rattle.desk.specs.Faults.{fault_of};
 
 use text::number::Flaw;
 
-#[derive(Drop)]
+#[derive(Clone, Copy)]
 pub enum Fault {
     Unknown,
     Missing,
@@ -18,7 +18,7 @@ pub enum Fault {
     Unended,
 }
 
-#[derive(Drop)]
+#[derive(Clone, Copy)]
 pub enum Outcome {
     Fine,
     Wrong(Fault),

@@ -5,7 +5,7 @@ ghost use Rattle.desk.specs.Fields.{field_of, kind_of, kind_of_register, read_as
 use text::items::place_in;
 use text::number::{Number, at_most, signed, unsigned};
 
-#[derive(Drop)]
+#[derive(Clone, Copy)]
 pub enum Field {
     Bound(Bound),
     Position(Axis),
@@ -16,13 +16,13 @@ pub enum Field {
 }
 
 // What a name stands for.
-#[derive(Drop)]
+#[derive(Clone, Copy)]
 pub enum Found {
     Is(Field),
     Nothing,
 }
 
-#[derive(Drop)]
+#[derive(Clone, Copy)]
 pub enum Bound {
     Width,
     Height,
@@ -32,13 +32,13 @@ pub enum Bound {
     Bottom,
 }
 
-#[derive(Drop)]
+#[derive(Clone, Copy)]
 pub enum Axis {
     X,
     Y,
 }
 
-#[derive(Drop)]
+#[derive(Clone, Copy)]
 pub enum Corner {
     X0,
     Y0,
@@ -46,7 +46,7 @@ pub enum Corner {
     Y1,
 }
 
-#[derive(Drop)]
+#[derive(Clone, Copy)]
 pub enum Register {
     Mode,
     Pattern,
@@ -60,7 +60,7 @@ pub enum Register {
 }
 
 // Where the block of a repeat begins, and how many passes are left.
-#[derive(Drop)]
+#[derive(Clone, Copy)]
 pub enum Part {
     Start,
     Left,
@@ -102,7 +102,7 @@ pub fn field_of(name: &[u8]) -> Found
 }
 
 // How a value is read.
-#[derive(Drop)]
+#[derive(Clone, Copy)]
 enum Kind {
     Unsigned,
     Signed,

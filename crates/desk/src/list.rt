@@ -12,7 +12,7 @@ use text::number::{Number, unsigned};
 pub const WORDS: usize = 65537;
 
 // How many words of the room are the list, and whether its line could be read.
-#[derive(Drop)]
+#[derive(Clone, Copy)]
 pub struct Listed {
     pub words: usize,
     pub outcome: Outcome,
@@ -93,7 +93,7 @@ fn fill(room: &mut [u16], from: usize, to: usize, word: u16)
     }
 }
 
-#[derive(Drop)]
+#[derive(Clone, Copy)]
 enum Times {
     Are(usize),
     Wrong(Fault),

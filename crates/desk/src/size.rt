@@ -6,7 +6,7 @@ use crate::fault::{Outcome, fault_of};
 use text::items::item;
 use text::number::{Number, unsigned};
 
-#[derive(Drop)]
+#[derive(Clone, Copy)]
 pub struct Six {
     pub numbers: [u32; 6],
     pub outcome: Outcome,

@@ -9,7 +9,7 @@ use circles::circle::Circle;
 use numbers::coordinate::{Coordinate, coordinate_of, radius_of, shifted};
 use raster::dots::Dot;
 
-#[derive(Drop)]
+#[derive(Clone, Copy)]
 pub enum Point {
     At(Dot),
     Outside,
@@ -44,7 +44,7 @@ pub fn point_by(from: Dot, a: u32, b: u32) -> Point
     paired(shifted(from.x, d.x), shifted(from.y, d.y))
 }
 
-#[derive(Drop)]
+#[derive(Clone, Copy)]
 pub enum Round {
     At(Circle),
     Outside,

@@ -10,14 +10,14 @@ use raster::frame::Pane;
 use text::items::item;
 
 // A picture file, or the characters of a terminal's window: columns, rows, and the bits of a colour, 8 or 24.
-#[derive(Drop)]
+#[derive(Clone, Copy)]
 pub enum Form {
     Ppm,
     Png,
     Cells(Window),
 }
 
-#[derive(Drop)]
+#[derive(Clone, Copy)]
 pub struct Window {
     pub columns: u32,
     pub rows: u32,
@@ -25,14 +25,14 @@ pub struct Window {
 }
 
 // The picture's form, and whether every dot has the colour of the opcode that painted it.
-#[derive(Drop)]
+#[derive(Clone, Copy)]
 pub struct Look {
     pub form: Form,
     pub painted: bool,
 }
 
 // Which argument names the list or the page, the screen's size, a pane, and the budget of each list.
-#[derive(Drop)]
+#[derive(Clone, Copy)]
 pub struct Given {
     pub first: usize,
     pub width: u32,
@@ -43,7 +43,7 @@ pub struct Given {
 
 // A list or a page to play; a list to check or to mend, whose name is that argument; a list and the dot, its column and row, whose
 // painter is to be named.
-#[derive(Drop)]
+#[derive(Clone, Copy)]
 pub enum Wish {
     List(Given, Look),
     Page(Given, Look),

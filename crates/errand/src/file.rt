@@ -7,7 +7,7 @@ use crate::say::complain;
 use crate::span::{Span, bytes_of};
 
 // Where what was read ends in its room; or a line has told why nothing was.
-#[derive(Drop)]
+#[derive(Clone, Copy)]
 pub enum Read {
     To(usize),
     Refused,

@@ -6,7 +6,7 @@ ghost use Rattle.forms.specs.Layout.{layout_of};
 use rules::opcode::{FlowForm, Form, PaintForm, PenForm, ValueForm};
 
 // No opcode; one of so many words behind which the next one is due; a jump, a call or RTRN of so many words; EODL; RPT; ERPT.
-#[derive(Drop)]
+#[derive(Clone, Copy)]
 pub enum Layout {
     Strange,
     Plain(u32),

@@ -1,4 +1,5 @@
 // Which opcode a word is: the one place of the program where opcode numbers stand.
+#![tactic(auto)]
 pub mod layout; // how it lies in a list
 
 ghost use Rattle.std.specs.Prelude.{◌≡◌};

@@ -7,7 +7,7 @@ use raster::biased::{Spot, aside_of, gap_of, larger, less, smaller};
 // flat says that x is the long axis, and ahead that the start is the first point given. along and across are the start's
 // coordinates on the long axis and on the other, up says that the end's on the other is not smaller, and n and m are the
 // larger and the smaller difference.
-#[derive(Drop)]
+#[derive(Clone, Copy)]
 pub struct Course {
     pub flat: bool,
     pub ahead: bool,

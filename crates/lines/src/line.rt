@@ -17,7 +17,7 @@ use raster::frame::Frame;
 use raster::rect::rect_of;
 
 #[repr(C)]
-#[derive(Drop)]
+#[derive(Clone, Copy)]
 pub struct Line {
     pub from: Dot,
     pub to: Dot,

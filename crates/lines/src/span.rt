@@ -8,7 +8,7 @@ use raster::biased::{Spot, larger, less, smaller, twice_of, wide};
 use raster::rect::Rect;
 
 // The numbers from `from` on, before `past`: none where past is not above from.
-#[derive(Drop)]
+#[derive(Clone, Copy)]
 pub struct Span {
     pub from: u32,
     pub past: u32,

@@ -11,7 +11,7 @@ use raster::biased::{twice_of, wide};
 use raster::rect::byte_of;
 
 // How far aside a dot is, q, and what is left there, e, in parts of 2n.
-#[derive(Drop)]
+#[derive(Clone, Copy)]
 pub struct Slope {
     pub q: u32,
     pub e: u32,
@@ -42,7 +42,7 @@ fn stride_of(in_row: bool, w: u32) -> usize
 }
 
 // What a step adds to a dot's byte: straight on, or on and one aside. The latter may lead back, so it is added modulo 2^64.
-#[derive(Drop)]
+#[derive(Clone, Copy)]
 pub struct Pace {
     pub on: usize,
     pub aside: usize,
@@ -68,7 +68,7 @@ pub fn pace_of(w: u32, l: Course) -> Pace
 }
 
 // A dot's byte, and what is left there.
-#[derive(Drop)]
+#[derive(Clone, Copy)]
 pub struct Place {
     pub at: usize,
     pub e: u32,

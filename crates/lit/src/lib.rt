@@ -1,10 +1,11 @@
 // How many dots of a dashed line light up, told by its length and its pattern without walking it.
+#![tactic(auto)]
 ghost use Rattle.std.specs.Prelude.{◌≡◌};
 ghost use Rattle.lit.specs.Lit.{lit_of};
 
 // 0 and the count, or 25 and none.
 #[repr(C)]
-#[derive(Drop)]
+#[derive(Clone, Copy)]
 pub struct LitDots {
     pub number: u8,
     pub count: u32,

@@ -1,5 +1,6 @@
 // Document 02, T-14, lists off bad EPROMs: a list is made one that can be walked from word 0 through its end, and each change is
 // reported.
+#![tactic(auto)]
 mod walk; // what becomes of each word
 mod report; // a change, as three numbers
 
@@ -16,7 +17,7 @@ use numbers::place::WordIndex;
 
 // 0 and how many words were changed; 32 and how many would be, where the report has no room for them; 13 and 0.
 #[repr(C)]
-#[derive(Drop)]
+#[derive(Clone, Copy)]
 pub struct Mended {
     pub number: u8,
     pub changes: u32,

@@ -6,7 +6,7 @@ ghost use Rattle.mender.specs.Report.{three};
 use numbers::place::WordIndex;
 
 // The word at an index was that, and is this.
-#[derive(Drop)]
+#[derive(Clone, Copy)]
 pub struct Change {
     pub index: WordIndex,
     pub was: u16,

@@ -6,14 +6,14 @@ use forms::form_of;
 use forms::layout::{Layout, layout_of};
 
 // So many words of an opcode are still to come, and at 0 an opcode is due; or behind the first word of one that the end cuts.
-#[derive(Drop)]
+#[derive(Clone, Copy)]
 pub enum Phase {
     Inside(usize),
     Cut,
 }
 
 // What becomes of a word, and where the walk is behind it.
-#[derive(Drop)]
+#[derive(Clone, Copy)]
 pub struct Passed {
     pub word: u16,
     pub phase: Phase,

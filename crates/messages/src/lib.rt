@@ -1,4 +1,5 @@
 // What `play` tells of a list: its number in words, where it was stopped or is refused, what was mended, and who painted a dot.
+#![tactic(auto)]
 pub mod digits; // numbers, to a descriptor
 pub mod mended; // what was mended
 pub mod place; // where a list was stopped or is refused

@@ -13,7 +13,7 @@ ghost use Rattle.numbers.specs.Number.{
 use crate::value::{of_signed, to_signed};
 
 // What a division answers.
-#[derive(Drop)]
+#[derive(Clone, Copy)]
 pub enum Division {
     Gives(u32),
     ByZero,

@@ -5,7 +5,7 @@ ghost use Rattle.numbers.specs.Coordinate.{in_word, coordinate, radius};
 
 use crate::value::to_signed;
 
-#[derive(Drop)]
+#[derive(Clone, Copy)]
 pub enum Coordinate {
     Within(i32),
     Outside,

@@ -5,18 +5,18 @@ ghost use Rattle.numbers.specs.Place as Place;
 ghost use Rattle.numbers.specs.Place.{index_of, word_of};
 
 // What a word names, a variable or none.
-#[derive(Drop)]
+#[derive(Clone, Copy)]
 pub struct VarNo(pub u16);
 
 #[repr(C)]
-#[derive(Drop)]
+#[derive(Clone, Copy)]
 pub struct WordIndex(pub u32);
 
-#[derive(Drop)]
+#[derive(Clone, Copy)]
 pub struct BitAddress(pub u32);
 
 // Where a jump or a call goes.
-#[derive(Drop)]
+#[derive(Clone, Copy)]
 pub enum Target {
     At(WordIndex),
     Refused,

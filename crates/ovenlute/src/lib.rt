@@ -1,4 +1,5 @@
 // Ovenlute's face: what the panel's firm links.
+#![tactic(auto)]
 ghost use Rattle.std.specs.Prelude.{◌≡◌, ◌≤◌};
 ghost use Rattle.lit.specs.Lit.{lit_of};
 ghost use Rattle.rules.specs.Environment.{held};
@@ -106,7 +107,7 @@ pub fn run(list: &[u16], screen: &mut [u8], env: Env, budget: u32) -> Answer
 
 // What a run over a lent environment tells; the environment stands where it was lent.
 #[repr(C)]
-#[derive(Drop)]
+#[derive(Clone, Copy)]
 pub struct Done {
     pub number: u8,
     pub place: WordIndex,

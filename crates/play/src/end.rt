@@ -4,7 +4,7 @@ ghost use Rattle.play.specs.Ends.{none_yet, with_number, end_of};
 
 // There is a picture, the list surely finishes, the mended one is written, or it is told who painted the dot; there is none, it may
 // not, it is not, or the question is refused; the arguments are wrong; there is a picture, but a list was stopped.
-#[derive(Drop)]
+#[derive(Clone, Copy)]
 pub enum End {
     Done,
     Nothing,
@@ -29,7 +29,7 @@ fn say(digit: &[u8]) {
 }
 
 // Whether a list has ended or still runs, as its number is 0 or 1; whether one was stopped.
-#[derive(Drop)]
+#[derive(Clone, Copy)]
 pub struct Ends {
     pub shown: bool,
     pub stopped: bool,

@@ -1,6 +1,7 @@
 // Plays lists on a screen of zeros, checks or mends one, or asks who painted a dot: the picture, how many steps a list takes, the
 // mended list, or who it was goes to standard output, a line for each list that is played or refused and for each word that is
 // mended to standard error, and how it ended to descriptor 3.
+#![tactic(auto)]
 mod end; // how it ended
 mod page; // the lists of a page
 mod report; // a line for each list

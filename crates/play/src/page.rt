@@ -15,7 +15,7 @@ use rules::environment::Env;
 use text::items::find;
 
 // A list in play: its environment, where its name and its words stand, what is left of its budget, its steps and its last number.
-#[derive(Drop)]
+#[derive(Clone, Copy)]
 pub struct Playing {
     pub env: Env,
     pub name: Span,
@@ -28,7 +28,7 @@ pub struct Playing {
 pub const PLACES: usize = 8;
 
 // The first `count` places are taken, and the first `used` words of the room. It is not sound where a list was refused.
-#[derive(Drop)]
+#[derive(Clone, Copy)]
 pub struct Page {
     pub lists: [Playing; PLACES],
     pub count: usize,

@@ -1,4 +1,5 @@
 // What every player shares.
+#![tactic(auto)]
 ghost use Rattle.std.specs.Prelude.{◌≡◌};
 ghost use Rattle.player.specs.Player.{verdict};
 
@@ -6,7 +7,7 @@ use numbers::place::WordIndex;
 
 // What a call comes back with, and what a refusal says: a number of document 01's table and, with 20 to 29, the index of the
 // word at fault. All other numbers carry 0.
-#[derive(Drop)]
+#[derive(Clone, Copy)]
 pub struct Verdict {
     pub number: u8,
     pub place: WordIndex,
@@ -24,7 +25,7 @@ pub fn carrying_0(number: u8) -> Verdict
 
 // What an opcode came to: it is carried out and paints nothing, or what the brush holds; or it is refused, and the state has
 // the refusal.
-#[derive(Drop)]
+#[derive(Clone, Copy)]
 pub enum Upshot {
     Quiet,
     Brushed,
@@ -32,7 +33,7 @@ pub enum Upshot {
 }
 
 // The state that an environment holds: stopped with the refusal.
-#[derive(Drop)]
+#[derive(Clone, Copy)]
 pub enum State {
     Running,
     Ended,

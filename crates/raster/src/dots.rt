@@ -10,7 +10,7 @@ use crate::frame::Frame;
 use crate::rect::{store, visible};
 
 #[repr(C)]
-#[derive(Drop)]
+#[derive(Clone, Copy)]
 pub struct Dot {
     pub x: i32,
     pub y: i32,

@@ -3,7 +3,7 @@ use crate::dots::Dot;
 
 // Columns left to right and rows top to bottom of the screen, both ends inside.
 #[repr(C)]
-#[derive(Drop)]
+#[derive(Clone, Copy)]
 pub struct Pane {
     pub left: u32,
     pub top: u32,
@@ -13,7 +13,7 @@ pub struct Pane {
 
 // The screen's size and the pane: no opcode changes them.
 #[repr(C)]
-#[derive(Drop)]
+#[derive(Clone, Copy)]
 pub struct Bounds {
     pub width: u32,
     pub height: u32,
@@ -22,7 +22,7 @@ pub struct Bounds {
 
 // The clip window, both corners inside; empty where x0 is above x1 or y0 above y1.
 #[repr(C)]
-#[derive(Drop)]
+#[derive(Clone, Copy)]
 pub struct Window {
     pub x0: i32,
     pub y0: i32,
@@ -32,7 +32,7 @@ pub struct Window {
 
 // Coordinates are relative to the origin. In clip mode 1 the window is too, in mode 2 it is absolute.
 #[repr(C)]
-#[derive(Drop)]
+#[derive(Clone, Copy)]
 pub struct Frame {
     pub bounds: Bounds,
     pub origin: Dot,

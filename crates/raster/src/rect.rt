@@ -7,7 +7,7 @@ use crate::biased::{BIAS, Spot, biased, larger, shift, smaller};
 use crate::frame::{Frame, Pane, Window};
 
 // Columns l to r of rows t to b, both ends inside: none where l is above r, or t above b.
-#[derive(Drop)]
+#[derive(Clone, Copy)]
 pub struct Rect {
     pub l: u32,
     pub t: u32,

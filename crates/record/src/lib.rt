@@ -1,4 +1,5 @@
 // Document 02, T-12, evening replay: a record of calls is text, blocks of three lines that say what was asked and what was answered.
+#![tactic(auto)]
 mod line; // a line: what it is called, a number, a line feed
 
 ghost use Rattle.std.specs.Prelude.{◌≡◌};
@@ -10,7 +11,7 @@ use text::decimal::width;
 
 // The block that stands first in a text: its budget, answer and steps, and how many bytes it takes. Or there is none there, or the
 // text ends.
-#[derive(Drop)]
+#[derive(Clone, Copy)]
 pub enum Block {
     Of(u32, u32, u32, usize),
     Malformed,
@@ -19,7 +20,7 @@ pub enum Block {
 
 // 0 and how many bytes of the record are in use now; or 32 and as many as were given.
 #[repr(C)]
-#[derive(Drop)]
+#[derive(Clone, Copy)]
 pub struct Recorded {
     pub number: u8,
     pub used: usize,

@@ -11,7 +11,7 @@ use text::join::put_whole;
 use text::number::{Number, unpadded};
 
 // The number of the line that stands first in a text, and how many bytes the line takes; or there is no such line there.
-#[derive(Drop)]
+#[derive(Clone, Copy)]
 pub enum Line {
     Of(u32, usize),
     Broken,

@@ -1,4 +1,5 @@
 // Document 02, T-12, evening replay: a record's calls are made again, block by block, and held against what was recorded.
+#![tactic(auto)]
 ghost use Rattle.std.specs.Prelude.{◌≡◌};
 ghost use Rattle.record.specs.Append as Append;
 ghost use Rattle.replay.specs.Replay.{Promise, pair as pair_of, none, alike as alikeOf};
@@ -9,7 +10,7 @@ use run::run::run;
 
 // What a call answered: its number and its steps.
 #[repr(C)]
-#[derive(Drop)]
+#[derive(Clone, Copy)]
 pub struct Pair {
     pub answer: u32,
     pub steps: u32,
@@ -18,7 +19,7 @@ pub struct Pair {
 // 0, and all blocks agree, so many; 33 and the block that differs, counted from 1, with what it says and what came now; or 34 and the
 // block that is malformed. The environment is as the last run left it.
 #[repr(C)]
-#[derive(Drop)]
+#[derive(Clone, Copy)]
 pub struct Replayed {
     pub number: u8,
     pub block: usize,

@@ -4,7 +4,7 @@ use numbers::place::WordIndex;
 
 // Of a run. The place is the index of the word at fault with 20 to 29, else 0.
 #[repr(C)]
-#[derive(Drop)]
+#[derive(Clone, Copy)]
 pub struct Answer {
     pub number: u8,
     pub place: WordIndex,
@@ -14,7 +14,7 @@ pub struct Answer {
 
 // Of the making of a fresh environment.
 #[repr(C)]
-#[derive(Drop)]
+#[derive(Clone, Copy)]
 pub struct Made {
     pub number: u8,
     pub env: Env,

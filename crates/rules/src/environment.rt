@@ -12,7 +12,7 @@ use raster::frame::{Bounds, Window};
 // counts the stacked returns, and the state is 0 running, 1 ended, 20 to 29 stopped with that number. The place is that of the refusal, and 0 in
 // an environment that is not stopped.
 #[repr(C)]
-#[derive(Drop)]
+#[derive(Clone, Copy)]
 pub struct Registers {
     pub position: Dot,
     pub origin: Dot,
@@ -30,7 +30,7 @@ pub struct Registers {
 
 // Document 02, T-09, an open repeat: where its block begins, behind the RPT, and how many passes are left, the one that runs among them.
 #[repr(C)]
-#[derive(Drop)]
+#[derive(Clone, Copy)]
 pub struct Repeat {
     pub start: WordIndex,
     pub left: u32,
@@ -39,7 +39,7 @@ pub struct Repeat {
 // Variables are 32 bits each; the first return stacked is at the start of the stack, the outermost repeat at the start of the
 // repeats, and the nesting counts those that are open.
 #[repr(C)]
-#[derive(Drop)]
+#[derive(Clone, Copy)]
 pub struct Env {
     pub bounds: Bounds,
     pub registers: Registers,

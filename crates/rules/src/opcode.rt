@@ -2,7 +2,7 @@
 use numbers::place::VarNo;
 
 // Those that go elsewhere, repeat, end or do nothing,
-#[derive(Drop)]
+#[derive(Clone, Copy)]
 pub enum FlowForm {
     Noop,
     Eodl,
@@ -18,7 +18,7 @@ pub enum FlowForm {
 }
 
 // those of the variables and the values compared,
-#[derive(Drop)]
+#[derive(Clone, Copy)]
 pub enum ValueForm {
     Adiv,
     Advv,
@@ -39,7 +39,7 @@ pub enum ValueForm {
 }
 
 // those that set what is drawn with,
-#[derive(Drop)]
+#[derive(Clone, Copy)]
 pub enum PenForm {
     Clipmode,
     Clipmodev,
@@ -58,7 +58,7 @@ pub enum PenForm {
 }
 
 // and those that paint.
-#[derive(Drop)]
+#[derive(Clone, Copy)]
 pub enum PaintForm {
     Cir,
     Cirv,
@@ -78,7 +78,7 @@ pub enum PaintForm {
     Clrwinv,
 }
 
-#[derive(Drop)]
+#[derive(Clone, Copy)]
 pub enum Form {
     Unknown,
     Flow(FlowForm),
@@ -88,7 +88,7 @@ pub enum Form {
 }
 
 // What was read: at most five values of 32 bits, and the variable named as destination.
-#[derive(Drop)]
+#[derive(Clone, Copy)]
 pub struct Operands {
     pub a: u32,
     pub b: u32,

@@ -8,7 +8,7 @@ use picture::palette::Colour;
 use text::join::put_whole;
 
 // How many colours the terminal has: 24 bits each, or 256.
-#[derive(Drop)]
+#[derive(Clone, Copy)]
 pub enum Depth {
     Direct,
     Cube,

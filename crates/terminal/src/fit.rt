@@ -3,7 +3,7 @@ ghost use Rattle.std.specs.Prelude.{◌≡◌, ◌≤◌, max};
 ghost use Rattle.terminal.specs.Views.{Side, clamped as clampedTo, even as evenOf, view_of, Sound};
 
 // A screen's size, and its picture's: both in dots.
-#[derive(Drop)]
+#[derive(Clone, Copy)]
 pub struct View {
     pub width: usize,
     pub height: usize,

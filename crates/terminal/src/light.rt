@@ -5,7 +5,7 @@ ghost use Rattle.terminal.specs.Lights.{square as squareOf, with_colour, with_do
 use picture::palette::{Colour, colour_of};
 
 // The sums of the squares.
-#[derive(Drop)]
+#[derive(Clone, Copy)]
 pub struct Light {
     pub red: u64,
     pub green: u64,

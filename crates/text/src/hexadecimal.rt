@@ -5,7 +5,7 @@ ghost use Rattle.text.specs.Hexadecimal.{hex_digit, worth as worthOf, hex_of, la
 use crate::number::is_digit;
 
 // The word that digits spell, or something else stands there.
-#[derive(Drop)]
+#[derive(Clone, Copy)]
 pub enum Word {
     Is(u16),
     Wrong,

@@ -3,14 +3,14 @@ ghost use Rattle.std.specs.Prelude.{◌≡◌};
 ghost use Rattle.text.specs.Number.{digit, decimal_of, unpadded_of, at_most, negated, signed_of};
 
 // The number that an item spells, or what is wrong with it.
-#[derive(Drop)]
+#[derive(Clone, Copy)]
 pub enum Number {
     Is(u32),
     Wrong(Flaw),
 }
 
 // No digits, or another byte among them; a number that is too large.
-#[derive(Drop)]
+#[derive(Clone, Copy)]
 pub enum Flaw {
     Foreign,
     Large,

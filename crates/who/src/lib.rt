@@ -1,4 +1,5 @@
 // Document 02, T-08, who painted this dot: a list is run without a screen, and the last step that wrote the dot is named.
+#![tactic(auto)]
 mod coordinate; // a coordinate as a column or a row
 mod following; // one opcode after the other, and who is named so far
 
@@ -18,7 +19,7 @@ use run::door::door;
 // 0 and the step that last wrote the dot, counted from 1, the word index of its opcode and the colour that it painted; step 0, and
 // the others 0 too, where no step wrote it. Any other number refuses, and the others are 0.
 #[repr(C)]
-#[derive(Drop)]
+#[derive(Clone, Copy)]
 pub struct Writer {
     pub number: u8,
     pub colour: u8,

@@ -1,11 +1,12 @@
 // The words for a number that a call answers: crates/wording/specs/Wording.antt has the table.
+#![tactic(auto)]
 ghost use Rattle.std.specs.Prelude.{◌≡◌, ◌<◌, length};
 ghost use Rattle.text.specs.Bytes.{bytes};
 ghost use Rattle.wording.specs.Wording.{calls, opcodes, table, said, None, text_of, words_of};
 
 // The words for a number, and a 0 behind them: as C wants a text.
 #[repr(C)]
-#[derive(Drop)]
+#[derive(Clone, Copy)]
 pub struct Words {
     pub length: u8,
     pub text: [u8; 127],
