@@ -48,7 +48,7 @@ unfolding coordinate
 told-within z x e =
     let t = told-first (in_word z) (λ o. clash (cc)) e in
     let q : x ≡ z = cc in
-    record { inside = t.0; value = q; held = rw q (to_z-of_z (record { sfits = omega (arith, within-mag z t.0) })) }
+    record { inside = t.0; value = q; held = rw q (to_z-of_z {w = w32} (record { sfits = omega (arith, within-mag z t.0) })) }
 
 pub told-outside : (z : ℤ) → coordinate z ≡ Outside → in_word z ≡ false
 unfolding coordinate

@@ -46,7 +46,7 @@ module _ {a b : ℕ} {x y : ℤ} (p : Holds a x) (q : Holds b y) where
   pub remainder_is : low32 (to_z w32 (of_z w32 (rem_z (to_z w32 (of_z w32 x)) (to_z w32 (of_z w32 y))))) ≡ remainder32 a b
   unfolding remainder32
   remainder_is =
-      rw (back p, back q) (ap low32 (to_z-of_z (record { sfits = lt_of_le_of_lt (mag_rem (signed32 a) (signed32 b)) (signed-mag a p.small) })))
+      rw (back p, back q) (ap low32 (to_z-of_z {w = w32} (record { sfits = lt_of_le_of_lt (mag_rem (signed32 a) (signed32 b)) (signed-mag a p.small) })))
 
   module _ (n : b ≡ 0xffff_ffff → ⊥) where
     fits : SFits w32 (quot_z (signed32 a) (signed32 b))
@@ -61,7 +61,7 @@ module _ {a b : ℕ} {x y : ℤ} (p : Holds a x) (q : Holds b y) where
 
     pub quotient_is : low32 (to_z w32 (of_z w32 (quot_z (to_z w32 (of_z w32 x)) (to_z w32 (of_z w32 y))))) ≡ quotient32 a b
     unfolding quotient32
-    quotient_is = rw (back p, back q) (ap low32 (to_z-of_z fits))
+    quotient_is = rw (back p, back q) (ap low32 (to_z-of_z {w = w32} fits))
 
 -- ---- by -1, a division is a negation
 

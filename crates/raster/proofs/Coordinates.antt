@@ -18,7 +18,7 @@ biased-lt (negsuc n) h = omega arith
 
 -- a coordinate comes back whole from a call
 pub back : (z : ℤ) → Coord z → to_z w32 (of_z w32 z) ≡ z
-back z h = to_z-of_z (record { sfits = omega (arith, h.small) })
+back z h = to_z-of_z {w = w32} (record { sfits = omega (arith, h.small) })
 
 -- ---- differences of natural numbers
 pub sub-ge : (a b : ℕ) → b ≤ a → sub_ℕ a b ≡ pos (a - b)
