@@ -89,7 +89,8 @@ module _ (rule : Env → Rule) (next : WordIndex) (e : Env) (p : List ℕ) where
   -- it was brushed, with the environment that it says, its frame that of before, and the brush holds the shape
   pub drawn : {u : Upshot} {e' : Env} → lowest r ≡ none → u ≡ Brushed → e' ≡ r.env → frame r.env ≡ frame e → Holds r.shape r.colour p
       → seen u e' p ≡ does rule next e p
-  drawn k z env framed h = goes k (rw (z, env, framed, h.shape, h.colour))
+  drawn k z env framed h =
+      goes k (rw (z, env, h.shape, h.colour) (ap (λ (f : Frame). went r.env (marks (placed f r.shape r.colour))) framed))
 
   -- where the shape is empty, no dot is painted
   pub paints-nothing : {X : Shown} → lowest r ≡ none → painting r e ≡ nothing (frame e) → X ≡ went r.env (unmarked e.bounds) → X ≡ does rule next e p
