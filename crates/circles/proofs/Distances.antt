@@ -6,7 +6,7 @@ use Prim.Native.Nat.{ℕ, zero, suc, ◌+◌, ◌*◌, ◌≤◌}
 use native.Mathlib.Omega.{arith}
 use lib.IntN.{ℤ, pos, negsuc, nat_abs, suc_ℤ, pred_ℤ, neg_ℤ, ◌+ℤ◌, ◌-ℤ◌, +ℤ_one, -ℤ_one, pred_ℤ-+ℤ, suc_ℤ-+ℤ}
 use lib.Signed.{le_z}
-use lib.Dec.{T, leb, leb→le, le→leb}
+use lib.Dec.{T, leb→le, le→leb}
 use Rattle.raster.specs.declared.biased.Spot.{Spot}
 use Rattle.raster.specs.declared.frame.Frame.{Frame}
 use Rattle.raster.specs.declared.rect.Rect.{Rect}

@@ -28,6 +28,9 @@ pub record Framed (f : Frame) (s : List ℕ) (p q : Spot) (l : Course) (r : Rect
   pub is-course : l ≡ course_of p q
   pub is-rect : r ≡ rect_of f
 
+pub framed : (f : Frame) (s : List ℕ) (p q : Spot) {l : Course} {r : Rect} → Fitting f s → NearB p × NearB q → l ≡ course_of p q → r ≡ rect_of f → Framed f s p q l r
+framed f s p q a b c d = record { fits = a; near = b; is-course = c; is-rect = d }
+
 module _ {f : Frame} {s : List ℕ} {p q : Spot} {l : Course} {r : Rect} (v : Framed f s p q l r) where
   course : l ≡ course_of (spot_of (dot_of p)) (spot_of (dot_of q))
   course = v.is-course ∙ sym (ap₂ course_of (spot_back p) (spot_back q))

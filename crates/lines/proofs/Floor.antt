@@ -1,5 +1,5 @@
 -- `floor` rounds toward minus infinity: it is the largest whole number that is not above z / m.
-use Rattle.std.proofs.Common.{ℕ, zero, suc, ◌+◌, ◌-◌, ◌*◌, ◌/◌, ◌<◌, ◌≤◌, ℤ, pos, negsuc, ◌+ℤ◌, ◌*ℤ◌, neg_ℤ, ◌≤ℤ◌, ◌<ℤ◌, ap, ◌∙◌, subst, add-one, arith, le→leb, lt→ltb}
+use Rattle.std.proofs.Common.{ℕ, zero, suc, ◌+◌, ◌*◌, ◌/◌, ◌<◌, ◌≤◌, ℤ, pos, negsuc, ◌+ℤ◌, ◌*ℤ◌, neg_ℤ, ◌≤ℤ◌, ◌<ℤ◌, ap, ◌∙◌, subst, add-one, arith, le→leb, lt→ltb}
 use mathlib.Core.Path.{subst⁻¹}
 use native.Mathlib.Nat.{mul-div-le, lt-mul-div-succ}
 use Rattle.raster.proofs.Coordinates.{sub-lt}

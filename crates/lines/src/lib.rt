@@ -1,5 +1,6 @@
 // Lines, also dashed ones, on a lent screen, within a frame.
 #![tactic(auto)]
+
 pub mod line; // a line's dots
 pub mod course; // a line from its start along the long axis
 mod span; // the dots of a course within a rectangle
