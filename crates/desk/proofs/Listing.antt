@@ -13,13 +13,10 @@ use Rattle.text.specs.Number.{decimal_of}
 use Rattle.text.specs.Hexadecimal.{hex_of}
 use Rattle.text.specs.declared.number.Number.{Number}
 use Rattle.text.specs.declared.hexadecimal.Word.{Word}
-use Rattle.text.specs.declared.hexadecimal.Word.TheVariants as Word
 use Rattle.desk.specs.declared.list.Listed.{Listed}
 use Rattle.desk.specs.Lists.{repeated, times_of, Loaded, loaded, refused, put, put_word, read_item, unless_wrong, read_items}
 use Rattle.desk.specs.declared.list.Times.{Times}
-use Rattle.desk.specs.declared.list.Times.TheVariants as Times
 use Rattle.desk.specs.declared.fault.Outcome.{Outcome}
-use Rattle.desk.specs.declared.fault.Outcome.TheVariants as Outcome
 use Rattle.desk.specs.declared.fault.Fault.{Fault}
 use Rattle.desk.specs.declared.fault.Fault.TheVariants.{NoWord, TooMany}
 

@@ -18,14 +18,12 @@ use Rattle.rules.specs.declared.environment.Registers.{Registers}
 use Rattle.rules.specs.declared.environment.Repeat.{Repeat}
 use Rattle.rules.specs.Environment.{over}
 use Rattle.text.specs.declared.number.Number.{Number}
-use Rattle.text.specs.declared.number.Number.TheVariants as Number
 use Rattle.text.specs.declared.number.Flaw.{Flaw}
 use Rattle.desk.specs.declared.desk.Desk.{Desk}
 use Rattle.desk.specs.declared.desk.Carried.{Carried}
 use Rattle.desk.specs.declared.fault.Fault.{Fault}
 use Rattle.desk.specs.declared.fault.Fault.TheVariants.{NoField}
 use Rattle.desk.specs.declared.field.Field.{Field}
-use Rattle.desk.specs.declared.field.Field.TheVariants as Field
 use Rattle.desk.specs.declared.field.Bound.{Bound}
 use Rattle.desk.specs.declared.field.Axis.{Axis}
 use Rattle.desk.specs.declared.field.Corner.{Corner}

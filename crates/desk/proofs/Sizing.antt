@@ -10,7 +10,6 @@ use lib.Dec.{ltb}
 use lib.ListN.{get_or, set}
 use Rattle.text.specs.Number.{decimal_of}
 use Rattle.text.specs.declared.number.Number.{Number}
-use Rattle.text.specs.declared.number.Number.TheVariants as Number
 use Rattle.text.specs.declared.number.Flaw.{Flaw}
 use Rattle.desk.specs.declared.fault.Fault.{Fault}
 use Rattle.desk.specs.declared.fault.Outcome.TheVariants.{Fine, Wrong}

@@ -5,13 +5,9 @@ use Rattle.text.specs.Items.{items}
 use Rattle.text.specs.Number.{decimal_of}
 use Rattle.text.specs.Hexadecimal.{hex_of}
 use Rattle.text.specs.declared.number.Number.{Number}
-use Rattle.text.specs.declared.number.Number.TheVariants as Number
 use Rattle.text.specs.declared.hexadecimal.Word.{Word}
-use Rattle.text.specs.declared.hexadecimal.Word.TheVariants as Word
 use Rattle.desk.specs.declared.list.Times.{Times}
-use Rattle.desk.specs.declared.list.Times.TheVariants as Times
 use Rattle.desk.specs.declared.fault.Outcome.{Outcome}
-use Rattle.desk.specs.declared.fault.Outcome.TheVariants as Outcome
 use Rattle.desk.specs.declared.fault.Fault.{Fault}
 use Rattle.desk.specs.declared.fault.Fault.TheVariants.{NoWord, TooMany}
 use Rattle.desk.specs.Faults.{fault_of}

@@ -12,14 +12,11 @@ use Rattle.rules.specs.declared.environment.Repeat.{Repeat}
 use Rattle.rules.specs.Environment.{over}
 use Rattle.text.specs.Number.{decimal_of, signed_of}
 use Rattle.text.specs.declared.number.Number.{Number}
-use Rattle.text.specs.declared.number.Number.TheVariants as Number
 use Rattle.desk.specs.declared.desk.Desk.{Desk}
 use Rattle.desk.specs.declared.desk.Carried.{Carried}
 use Rattle.desk.specs.declared.fault.Fault.TheVariants.{NoField}
 use Rattle.desk.specs.declared.field.Field.{Field}
-use Rattle.desk.specs.declared.field.Field.TheVariants as Field
 use Rattle.desk.specs.declared.field.Found.{Found}
-use Rattle.desk.specs.declared.field.Found.TheVariants as Found
 use Rattle.desk.specs.declared.field.Bound.{Bound}
 use Rattle.desk.specs.declared.field.Bound.TheVariants.{Width, Height, Left, Top, Right, Bottom}
 use Rattle.desk.specs.declared.field.Axis.{Axis}

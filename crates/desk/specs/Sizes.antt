@@ -3,7 +3,6 @@ use Rattle.std.specs.Prelude.{ℕ, zero, suc, ◌*◌, cond, List, [], ltb, get_
 use Rattle.text.specs.Items.{items}
 use Rattle.text.specs.Number.{decimal_of}
 use Rattle.text.specs.declared.number.Number.{Number}
-use Rattle.text.specs.declared.number.Number.TheVariants as Number
 use Rattle.desk.specs.declared.size.Six.{Six}
 use Rattle.desk.specs.declared.fault.Outcome.{Outcome}
 use Rattle.desk.specs.declared.fault.Outcome.TheVariants.{Fine, Wrong}

@@ -1,5 +1,6 @@
 // A screen in a terminal: two dots a character, the upper one as its colour and the lower one as its ground.
 #![tactic(auto)]
+
 pub mod cell; // the bytes of a character
 pub mod fit; // the size of the picture
 mod light; // the mean light of dots
