@@ -1,5 +1,6 @@
 // An opcode's name, and how many variables an operand of it takes: crates/names/specs/Names.antt has both.
 #![tactic(auto)]
+
 ghost use Rattle.std.specs.Prelude.{◌≡◌};
 ghost use Rattle.text.specs.Bytes.{bytes};
 ghost use Rattle.rules.specs.Meaning as Meaning;

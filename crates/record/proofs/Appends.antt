@@ -1,9 +1,8 @@
 -- What appending answers, by its tests.
 use Prim.Native.Nat.{ℕ, ◌+◌, ◌<◌, ◌≤◌}
-use mathlib.Core.Path.{◌≡◌, refl, sym, ap, ap₂, ◌∙◌}
+use mathlib.Core.Path.{◌≡◌, refl, sym, ap₂, ◌∙◌}
 use mathlib.Core.Bool.{Bool, true, false, cond, ◌||◌}
 use mathlib.Core.List.{List}
-use native.Mathlib.Omega.{arith}
 use borrow.Author.Tests.{lt-ltb, le-ltb}
 use lib.Dec.{ltb}
 use lib.ListN.{length}
@@ -11,7 +10,7 @@ use lib.Seq.{sets}
 use Rattle.text.specs.Number.{limit}
 use Rattle.text.specs.Puts.{Puts}
 use Rattle.record.specs.Block.{block_text}
-use Rattle.record.specs.Append.{Left, left, large, appending}
+use Rattle.record.specs.Append.{Left, left, appending}
 
 module _ (r : List ℕ) (used b a s : ℕ) where
   abbrev text : List ℕ

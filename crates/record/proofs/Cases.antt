@@ -11,7 +11,7 @@ use Rattle.record.specs.declared.Block as Block'
 use Rattle.record.specs.declared.Block.TheVariants as Block
 use Rattle.record.specs.Block.{line_text, block_text}
 use Rattle.record.specs.Read.{line_of, block_of}
-use Rattle.record.specs.Append.{Left, left, appending}
+use Rattle.record.specs.Append.{left, appending}
 
 abbrev feed : List ℕ
 feed = 10 ∷ []

@@ -1,5 +1,6 @@
 // Document 02, T-12, evening replay: a record of calls is text, blocks of three lines that say what was asked and what was answered.
 #![tactic(auto)]
+
 mod line; // a line: what it is called, a number, a line feed
 
 ghost use Rattle.std.specs.Prelude.{◌≡◌};

@@ -1,5 +1,5 @@
 -- The digits of a number: one, or those of its tenth and the last; how many, and how they are put.
-use Rattle.std.proofs.Common.{◌≡◌, ℕ, zero, suc, ◌+◌, ◌-◌, ◌*◌, ◌/◌, ◌%◌, ◌<◌, ◌≤◌, Bool, true, false, cond, ltb, List, [], ◌∷◌, ◌++◌, length, set, sym, refl, ap, ◌∙◌, ap₂, mod-lt, div-add-mod', arith, length-append, ltb-false, ltb-true, le-ltb, lt-ltb}
+use Rattle.std.proofs.Common.{◌≡◌, ℕ, zero, suc, ◌+◌, ◌-◌, ◌*◌, ◌/◌, ◌%◌, ◌<◌, ◌≤◌, Bool, true, false, cond, ltb, List, [], ◌∷◌, ◌++◌, length, set, sym, refl, ap, ◌∙◌, mod-lt, div-add-mod', arith, length-append, ltb-false, ltb-true, le-ltb, lt-ltb}
 use lib.Seq.{sets}
 use Rattle.text.specs.Decimal.{digits, decimal}
 use Rattle.text.specs.Puts.{Puts}

@@ -1,5 +1,6 @@
 // Text: the items of a line, the numbers that items spell and how they are written, words in hexadecimal, and texts put together.
 #![tactic(auto)]
+
 pub mod decimal; // decimal numbers, written
 pub mod hexadecimal; // words of four hexadecimal digits
 pub mod items; // the items of a line

@@ -24,7 +24,7 @@ calls =
     14 says "the budget is above 1,000,000" ∷
     []
 
--- an opcode's, at which the list stopped; 30 and 31 are told by the checker alone, 32 by the mender and by a recording, 33 and 34 by a replay
+-- an opcode's, at which the list stopped; 30 and 31 are told by the checker alone, 32 by the mender
 abbrev pub opcodes : List Line
 opcodes =
     20 says "the counter is at or past the list's end" ∷
@@ -39,9 +39,7 @@ opcodes =
     29 says "a return with none stacked, or the end of a repeat with none open" ∷
     30 says "an EODL inside a repeat" ∷
     31 says "more than 1,000,000 steps are needed" ∷
-    32 says "no room for every change in the report or for the block in the record, or a number above 4,294,967,295" ∷
-    33 says "a block of the record differs" ∷
-    34 says "a block of the record is malformed" ∷
+    32 says "the report has no room for every change" ∷
     []
 
 abbrev pub others : String

@@ -1,5 +1,6 @@
 // The words for a number that a call answers: crates/wording/specs/Wording.antt has the table.
 #![tactic(auto)]
+
 ghost use Rattle.std.specs.Prelude.{◌≡◌, ◌<◌, length};
 ghost use Rattle.text.specs.Bytes.{bytes};
 ghost use Rattle.wording.specs.Wording.{calls, opcodes, table, said, None, text_of, words_of};
@@ -65,13 +66,7 @@ fn opcode_words(number: u8) -> Words
         ),
         30 => told(number, 30, b"an EODL inside a repeat"),
         31 => told(number, 31, b"more than 1,000,000 steps are needed"),
-        32 => told(
-            number,
-            32,
-            b"no room for every change in the report or for the block in the record, or a number above 4,294,967,295",
-        ),
-        33 => told(number, 33, b"a block of the record differs"),
-        34 => told(number, 34, b"a block of the record is malformed"),
+        32 => told(number, 32, b"the report has no room for every change"),
         _ => other(number),
     }
 }
