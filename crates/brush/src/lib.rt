@@ -1,5 +1,6 @@
 // What is to be painted, held in seven numbers, so that who says what is painted needs no screen; and the painting of it.
 #![tactic(auto)]
+
 ghost use Rattle.std.specs.Prelude.{◌≡◌};
 ghost use Rattle.raster.specs.Shapes.{dot, moved_by, all};
 ghost use Rattle.raster.specs.Frame.{Word, Fitting};

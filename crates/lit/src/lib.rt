@@ -1,5 +1,6 @@
 // How many dots of a dashed line light up, told by its length and its pattern without walking it.
 #![tactic(auto)]
+
 ghost use Rattle.std.specs.Prelude.{◌≡◌};
 ghost use Rattle.lit.specs.Lit.{lit_of};
 

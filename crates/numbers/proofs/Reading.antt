@@ -1,5 +1,5 @@
 -- What a reader may hold specs/Number.antt to: wrapping, the value of each operation, division, and the bits of AND and OR.
-use Rattle.std.proofs.Common.{◌≡◌, ℕ, zero, suc, ◌+◌, ◌*◌, ◌/◌, ◌%◌, ◌^◌, ◌<◌, min, max, true, ℤ, pos, negsuc, ◌+ℤ◌, ◌-ℤ◌, ◌*ℤ◌, neg_ℤ, nat_abs, sym, refl, ap, ◌∙◌, lt_of_le_of_lt, mod-lt, div-add-mod', zero-mul, arith, le-leb, leb-true}
+use Rattle.std.proofs.Common.{◌≡◌, ℕ, zero, suc, ◌*◌, ◌/◌, ◌%◌, ◌^◌, ◌<◌, min, max, true, ℤ, pos, negsuc, ◌+ℤ◌, ◌-ℤ◌, ◌*ℤ◌, neg_ℤ, nat_abs, sym, refl, ap, ◌∙◌, lt_of_le_of_lt, mod-lt, div-add-mod', zero-mul, arith, le-leb, leb-true}
 use native.Mathlib.Nat.{mod-le}
 use lib.IntN.{neg_ℤ-+ℤ}
 use lib.Signed.{mag, mag_rem, quot_z, rem_z, le_z}

@@ -1,5 +1,6 @@
 // What may be painted on: screen, pane and clip window; and the painting of a dot, of a fill and of parts of rows.
 #![tactic(auto)]
+
 pub mod frame; // screen, pane and clip window
 pub mod dots; // one dot
 pub mod fill; // every drawable dot
