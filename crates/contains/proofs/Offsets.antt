@@ -4,7 +4,7 @@ use mathlib.Core.Bool.{Bool, true, false, cond}
 use Prim.Native.Nat.{ℕ, ◌+◌, ◌-◌, ◌*◌, ◌/◌, ◌<◌, ◌≤◌}
 use native.Mathlib.Omega.{arith}
 use native.Mathlib.Nat.{div-eq_of_lt-le, div-add-mod', mod-lt, mul_comm, mul-add}
-use lib.Dec.{T, ltb, eqb, ltb→lt, lt→ltb, eqb→eq}
+use lib.Dec.{ltb, eqb, ltb→lt, lt→ltb, eqb→eq}
 use borrow.Author.Tests.{ne_eqb}
 use Rattle.raster.specs.Biased.{aside}
 use Rattle.raster.proofs.Tests.{same, eq→T}

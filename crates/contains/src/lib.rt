@@ -1,5 +1,6 @@
 // Whether what a brush paints contains a dot, in constant time for every shape.
 #![tactic(auto)]
+
 mod line; // a line, also a dashed one
 mod circle; // a circle, filled or its outline
 

@@ -1,0 +1,25 @@
+-- `contains`: a dot is painted where it is drawable and the shape's.
+use mathlib.Core.Path.{◌≡◌, sym, ap, ◌∙◌}
+use mathlib.Core.Bool.{Bool, ◌&&◌}
+use lib.IntN.{pos}
+use Rattle.raster.specs.Shapes.{moved_by}
+use Rattle.raster.specs.Frame.{drawable}
+use Rattle.raster.proofs.Rectangles.{drawable-is}
+use Rattle.brush.specs.Brush.{shape_of}
+use Rattle.contains.proofs.contains.Goals as goal
+
+-- in both, the test of the rectangle is the rule's
+pub returns-then-not-visible : goal.returns-then-not-visible
+returns-then-not-visible c =
+    let g = c.args in
+    let h = c.requires.sane in
+    let asked : c.visible.result ≡ drawable g.f (pos g.column) (pos g.row) = c.visible.ensures ∙ sym (drawable-is g.f h.0 g.column g.row h.1 h.2) in
+    sym (ap (λ (t : Bool). t && moved_by g.f.origin (shape_of g.brush.now) (pos g.column) (pos g.row)) (sym asked ∙ c.if-not-visible.true))
+
+pub returns : goal.returns
+returns c =
+    let g = c.args in
+    let h = c.requires.sane in
+    let asked : c.visible.result ≡ drawable g.f (pos g.column) (pos g.row) = c.visible.ensures ∙ sym (drawable-is g.f h.0 g.column g.row h.1 h.2) in
+    c.on_shape.ensures
+    ∙ sym (ap (λ (t : Bool). t && moved_by g.f.origin (shape_of g.brush.now) (pos g.column) (pos g.row)) (sym asked ∙ c.if-not-visible.false))
