@@ -1,5 +1,6 @@
 // Document 02, T-09, a profile that surely finishes: a list is read without being played, and the steps to its EODL are stated.
 #![tactic(auto)]
+
 mod sums; // steps, kept within 32 bits
 mod reading; // sequences of opcodes and blocks
 

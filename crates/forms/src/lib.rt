@@ -1,5 +1,6 @@
 // Which opcode a word is: the one place of the program where opcode numbers stand.
 #![tactic(auto)]
+
 pub mod layout; // how it lies in a list
 
 ghost use Rattle.std.specs.Prelude.{◌≡◌};
@@ -8,6 +9,7 @@ ghost use Rattle.rules.specs.Table.{form_of};
 use rules::opcode::{FlowForm, Form, PaintForm, PenForm, ValueForm};
 
 // One decision over the opcode word; everything else is unknown.
+#[tactic(auto, using(rules::proofs::TableLaws::at), unfolding(rules::specs::Table::form_of))]
 pub fn form_of(word: u16) -> Form
     ensures { result ≡ form_of word }
 {

@@ -1,6 +1,7 @@
 // Document 02, T-14, lists off bad EPROMs: a list is made one that can be walked from word 0 through its end, and each change is
 // reported.
 #![tactic(auto)]
+
 mod walk; // what becomes of each word
 mod report; // a change, as three numbers
 

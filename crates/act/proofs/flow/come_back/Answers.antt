@@ -1,0 +1,9 @@
+-- `come_back`: back, whatever was got.
+use Rattle.lent.proofs.Handing.{passed-stacks, got-stacks}
+use Rattle.act.proofs.flow.come_back.Goals as goal
+
+pub returns-in-Refused : goal.returns-in-Refused
+returns-in-Refused c n = passed-stacks _ c.in-Refused.is c.stop.ensures c.requires.stack
+
+pub returns-in-Got : goal.returns-in-Got
+returns-in-Got c n = got-stacks _ c.in-Got.is (c.back.ensures c.in-Got.field-0 n c.in-Got.field-1)

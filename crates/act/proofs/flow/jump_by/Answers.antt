@@ -1,0 +1,9 @@
+-- `jump_by`: the target is given by an offset.
+use Rattle.lent.proofs.Handing.{passed-goes, got-goes}
+use Rattle.act.proofs.flow.jump_by.Goals as goal
+
+pub returns-in-Refused : goal.returns-in-Refused
+returns-in-Refused c = passed-goes _ c.in-Refused.is c.stop.ensures
+
+pub returns-in-Got : goal.returns-in-Got
+returns-in-Got c = got-goes _ c.in-Got.is c.jump_to.ensures
