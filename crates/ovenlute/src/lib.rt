@@ -1,5 +1,6 @@
 // Ovenlute's face: what the panel's firm links.
 #![tactic(auto)]
+
 ghost use Rattle.std.specs.Prelude.{◌≡◌, ◌≤◌};
 ghost use Rattle.lit.specs.Lit.{lit_of};
 ghost use Rattle.rules.specs.Environment.{held};

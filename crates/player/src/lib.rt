@@ -1,5 +1,6 @@
 // What every player shares.
 #![tactic(auto)]
+
 ghost use Rattle.std.specs.Prelude.{◌≡◌};
 ghost use Rattle.player.specs.Player.{verdict};
 

@@ -1,5 +1,6 @@
 // Document 02, T-12, evening replay: a record's calls are made again, block by block, and held against what was recorded.
 #![tactic(auto)]
+
 ghost use Rattle.std.specs.Prelude.{◌≡◌};
 ghost use Rattle.record.specs.Append as Append;
 ghost use Rattle.replay.specs.Replay.{Promise, pair as pair_of, none, alike as alikeOf};

@@ -1,5 +1,6 @@
 // A call: the door, and then one opcode after the other while the budget lasts.
 #![tactic(auto)]
+
 mod both; // two answers at once
 pub mod bounds; // size and pane
 pub mod door; // 10 to 14

@@ -1,5 +1,6 @@
 // A list is run with every opcode painting in a tint, so that a picture shows who painted what.
 #![tactic(auto)]
+
 mod tint; // the tint of an opcode, and painting in it
 mod turns; // as many as the budget allows
 

@@ -1,5 +1,6 @@
 // Document 02, T-08, who painted this dot: a list is run without a screen, and the last step that wrote the dot is named.
 #![tactic(auto)]
+
 mod coordinate; // a coordinate as a column or a row
 mod following; // one opcode after the other, and who is named so far
 
