@@ -1,5 +1,5 @@
 -- Document 01, 'Opcodes of the base', and document 02, T-01, T-03, T-06 and T-09: what each op does, one clause an op. A clause finds the counter at the next opcode.
-use Rattle.std.specs.Prelude.{ℕ, ◌-◌, Bool, true, false, cond, not, ◌&&◌, ◌||◌, length, ltb, leb, eqb, ℤ, pos, ◌+ℤ◌}
+use Rattle.std.specs.Prelude.{ℕ, ◌-◌, Bool, true, false, cond, not, ◌&&◌, ◌||◌, length, ltb, leb, eqb, pos, ◌+ℤ◌}
 use Rattle.std.specs.Int.Bits.{bit_and, bit_or}
 use Rattle.numbers.specs.Number.{signed32, low8, sum32, difference32, product32, quotient32, remainder32}
 use Rattle.numbers.specs.Coordinate.{in_word, is_radius}

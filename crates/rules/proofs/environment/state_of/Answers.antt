@@ -1,6 +1,5 @@
 -- `state_of`: running and ended are asked for first.
 use mathlib.Core.Path.{sym, ◌∙◌}
-use borrow.Author.Rules.{rules}
 use Rattle.rules.specs.Environment.{state_of}
 use Rattle.rules.proofs.environment.state_of.Goals as goal
 
