@@ -1,7 +1,7 @@
 -- T-12's theorem of the rules: a session that was recorded agrees always when it is replayed on a screen of the same length.
 use Prim.Native.Nat.{ℕ, suc, ◌+◌}
 use mathlib.Core.Path.{◌≡◌, refl, sym, ap, ap₂, ◌∙◌, subst}
-use mathlib.Core.Bool.{Bool, true, cond, ◌&&◌}
+use mathlib.Core.Bool.{Bool, cond, ◌&&◌}
 use mathlib.Core.List.{List, [], ◌∷◌}
 use native.Mathlib.Omega.{arith}
 use borrow.Author.Tests.{eq-eqb}
@@ -12,7 +12,7 @@ use Rattle.rules.specs.Environment.{Env}
 use Rattle.rules.specs.Fresh.{made}
 use Rattle.rules.specs.Door as Door
 use Rattle.replay.specs.Entries.{Entry, whole}
-use Rattle.replay.specs.Replay.{Replay, pair, came_of, agreeing, differing, replay_from, replay}
+use Rattle.replay.specs.Replay.{Replay, pair, came_of, differing, replay_from, replay}
 use Rattle.replay.specs.Session.{Call, session, last_env, on_one, Long, record_text, Entered}
 use Rattle.replay.proofs.Blind.{same-got, same_length}
 use Rattle.replay.proofs.Recording.{AllSmall, wholes, read_back, all_small, record-text}

@@ -1,5 +1,5 @@
 -- The loop of a replay: what is found from here is what is found.
-use Prim.Native.Nat.{ℕ, zero, suc, ◌+◌, ◌-◌, ◌<◌, ◌≤◌}
+use Prim.Native.Nat.{ℕ, zero, suc, ◌+◌, ◌<◌, ◌≤◌}
 use mathlib.Core.Path.{◌≡◌, refl, sym, ap, ap₂, ◌∙◌}
 use mathlib.Core.Bool.{Bool, true, false, cond, ◌&&◌}
 use mathlib.Core.List.{List, [], ◌∷◌}
@@ -17,7 +17,7 @@ use Rattle.record.specs.declared.Block.TheVariants as Block
 use Rattle.record.specs.Read.{block_of}
 use Rattle.record.proofs.Blocks.{text-ends, block-ends}
 use Rattle.replay.specs.declared.Pair.{Pair}
-use Rattle.replay.specs.Entries.{Entry, whole, malformed, onto, entries_in, entries}
+use Rattle.replay.specs.Entries.{Entry, whole, onto, entries_in, entries}
 use Rattle.replay.specs.Replay.{Replay, pair, came_of, alike, agreeing, differing, spoilt, replay_from, replay}
 use Rattle.replay.proofs.Blind.{same_length}
 

@@ -1,5 +1,5 @@
 -- T-12 of the program itself: of any calls of `run`, `append` and `replay` that kept their promises, whoever made them.
-use Prim.Native.Nat.{ℕ, zero, suc, ◌+◌}
+use Prim.Native.Nat.{ℕ, suc}
 use mathlib.Core.Path.{◌≡◌, refl, sym, ap, ◌∙◌, subst}
 use mathlib.Core.List.{List, [], ◌∷◌}
 use lib.ListN.{length, take}
@@ -15,10 +15,9 @@ use Rattle.rules.proofs.Unique.{Alike, alike}
 use Rattle.record.specs.declared.Recorded.{Recorded}
 use Rattle.record.specs.Append as Append
 use Rattle.replay.specs.declared.Replayed.{Replayed}
-use Rattle.replay.specs.Replay.{Replay, found, replay, Promise}
-use Rattle.replay.specs.Session.{Call, Noted, session, last_env, Long, Entered, none, one}
-use Rattle.replay.proofs.Blind.{same_length}
-use Rattle.replay.proofs.Agreement.{Agrees, recorded-agrees}
+use Rattle.replay.specs.Replay.{Replay, found, Promise}
+use Rattle.replay.specs.Session.{Call, session, last_env, Long, Entered, none, one}
+use Rattle.replay.proofs.Agreement.{recorded-agrees}
 
 -- a call over the list w that answered a, on a screen of n bytes, and the appending to the record r that answered x and left r': both kept their
 -- promises, and the block was not refused
