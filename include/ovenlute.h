@@ -30,7 +30,7 @@ extern "C" {
    it stand, and the environment is stopped for good: it answers this number again, with its place. Only the 25 of ovenlute_lit and
    of ovenlute_who is of its call and of no opcode, and ovenlute_check, which carries nothing out, tells 20 to 29 of what it reads.
    30 and 31 are ovenlute_check's alone. 32 is ovenlute_mend's and ovenlute_record's: list, report and record are as they were.
-   33 and 34 are ovenlute_replay's. */
+   ovenlute_replay has two more, OVENLUTE_DIFFERS and OVENLUTE_MALFORMED below, of which ovenlute_text says nothing of their own. */
 enum ovenlute_number {
     OVENLUTE_ENDED = 0,          /* the list has ended */
     OVENLUTE_BUDGET = 1,         /* the budget is used up, the list still runs */
@@ -51,9 +51,7 @@ enum ovenlute_number {
     OVENLUTE_STACK_EMPTY = 29,   /* a return with none stacked, or the end of a repeat with none open */
     OVENLUTE_END_INSIDE = 30,    /* an EODL inside a repeat */
     OVENLUTE_MANY_STEPS = 31,    /* more than 1,000,000 steps are needed */
-    OVENLUTE_NO_ROOM = 32,       /* no room for every change in the report or for the block in the record, or a number above 4,294,967,295 */
-    OVENLUTE_DIFFERS = 33,       /* a block of the record differs */
-    OVENLUTE_MALFORMED = 34      /* a block of the record is malformed */
+    OVENLUTE_NO_ROOM = 32        /* the report has no room for every change */
 };
 
 /* The state of an environment: one of these, or the number that it was stopped with, 20 to 29. */
@@ -148,6 +146,10 @@ struct ovenlute_pair {
     uint32_t answer, steps;
 };
 
+/* The numbers of a replay alone. */
+#define OVENLUTE_DIFFERS 33           /* a block of the record differs */
+#define OVENLUTE_MALFORMED 34         /* a block of the record is malformed */
+
 struct ovenlute_replayed {
     uint8_t number;
     size_t block;                   /* 33 and 34: which block, counted from 1; 0: how many there are, and all agree */
@@ -168,7 +170,7 @@ struct ovenlute_words {
 
 /* Any of the nine may be called from several threads at once on different environments, screens, reports and records: nothing is
    kept between calls but what is lent. Lists that share a screen take turns, and nobody else reads a list while it is mended. None
-   allocates, and none needs more than 4 KiB of stack. */
+   allocates, and none needs more than 2 KiB of stack, ovenlute_replay 4 KiB. */
 
 /* A fresh environment for a screen of that size and a pane in it: variables 0, position (0, 0), origin (0, 0), colour 15, clip
    mode 0, window the whole screen, pattern all ones, counter 0, no repeat open, running. Numbers: 0; 10 for a bad size; 12 for a

@@ -29,21 +29,46 @@ crates_below() {
             for (k = 1; k <= n; k++) visit(below[k])
         }
         { sub(/#.*/, "") }
-        split($0, half, ":") == 2 { needs[half[1]] = half[2] }
+        split($0, half, ":") == 2 { split(half[1], named, " "); needs[named[1]] = half[2] }
         END { if (wanted) visit(wanted); else for (name in needs) print name }
     ' crates.txt
 }
 
-# proves TOTAL WORDS..: rt WORDS, and says on standard error how far it is, of TOTAL crates and edits, and how long it has taken: on a
-# terminal in one line that is rewritten, with what is being done; otherwise in a line for each that is done. $room/log has all that
-# rt said. rt's temporary files lie in the room too, which others must pass through where rt runs a program as nobody.
-proves() {
-    total=$1
+# changed PROGRAM: it is not proved and built yet, or it, or the kit, has changed since
+changed() {
+    mark=target/$1.proved
+    [ -e "target/bin/$1" ] && [ -e "$mark" ] || return 0
+    # what rt itself writes lies in crates/*/out
+    [ -n "$({ find crates -mindepth 2 -path 'crates/*/out' -prune -o -newer "$mark" -print; find crates.txt "$kit/KIT-ID" -newer "$mark"; } | head -n 1)" ]
+}
+
+# keep PROGRAM BEGAN: takes the program that rt has made of what there was when the file BEGAN was
+keep() {
+    mkdir -p target/bin
+    cp "crates/$1/out/$1" "target/bin/$1"
+    touch -r "$2" "target/$1.proved"
+}
+
+# program NAME ARGUMENT..: target/bin/NAME, proved and built by rt, which also runs it once, on these arguments
+program() {
+    built=$1
     shift
-    began=$(date +%s) told=0 finished=0
+    : >"$room/began"
+    proves "$(crates_below "$built" | wc -l)" "crates/$built" run -- "$@" || { cat "$room/log" >&2; return 1; }
+    keep "$built" "$room/began"
+}
+
+# proves TOTAL FOLDER WORDS..: rt WORDS in that folder, and says on standard error how far it is, of TOTAL crates and edits, and how
+# long it has taken: on a terminal in one line that is rewritten, with what is being done; otherwise in a line for each that is done.
+# $room/log has all that rt said. rt's temporary files lie in the room too, which others must pass through where rt runs a program as
+# nobody.
+proves() {
+    total=$1 folder=$2
+    shift 2
+    began=$(date +%s) told=0 finished=0 verb=$1
     chmod 711 "$room"
     : >"$room/log"
-    TMPDIR=$room setsid rt "$@" >"$room/log" 2>&1 9<&- &
+    (cd "$folder" && TMPDIR=$room exec setsid rt "$@") >"$room/log" 2>&1 9<&- &
     prover=$!
     while kill -0 "$prover" 2>/dev/null; do
         tell_progress
@@ -57,17 +82,25 @@ proves() {
     return "$proved"
 }
 
-# what rt has said since it was last looked at
+# What rt has said since it was last looked at: '1' before a line of a crate or an edit that is done, '0' before any other. rt ci says
+# itself which crate is proved; else the last two lines of its check tell it.
 tell_progress() {
-    sed -n "$((told + 1)),\$p" "$room/log" >"$room/news"
-    told=$((told + $(wc -l <"$room/news")))
-    grep '^rt: ' "$room/news" >"$room/lines" || :
-    while IFS= read -r line; do
+    before=$told
+    told=$(wc -l <"$room/log")
+    awk -v before="$before" -v told="$told" -v verb="$verb" '
+        NR > told { exit }
+        /^crate [a-z0-9_]+: / { name = $2; sub(/:/, "", name) }
+        NR <= before { next }
+        verb != "ci" && /^logic=proved / { print 1, "rt: " name " proved" }
+        verb != "ci" && /^logic=not-proved/ { print 1, "rt: " name " NOT PROVED" }
+        verb != "ci" && /^rt: (chose |running |rt check |rt lemma |[a-z0-9_]+: begins with )/ { next }
+        /^rt: ([a-z0-9_]+ (proved|NOT PROVED|is kept)|must-fail )/ { print 1, $0; next }
+        /^rt: / { print 0, $0 }
+    ' "$room/log" >"$room/lines"
+    while read -r is_done line; do
+        finished=$((finished + is_done))
         case $line in
-        'rt: must-fail '* | *' proved ('* | *' NOT PROVED'*) finished=$((finished + 1)) ;;
-        esac
-        case $line in
-        *' (unchanged since it was last proved)') ;;
+        *' is kept: '*) ;;
         *) [ -t 2 ] || echo "$(so_far): ${line#rt: }" >&2 ;;
         esac
     done <"$room/lines"
@@ -79,11 +112,12 @@ so_far() {
     printf '%d of %d, %d min %02d s' "$finished" "$total" $((seconds / 60)) $((seconds % 60))
 }
 
-# rt makes a file for what each crate or edit will say when it is done: the empty ones are in work
+# the crates that rt's provers are at, where the system's ps tells them
 in_work() {
-    find target/log target/must-fail -name '*.out' -size 0 2>/dev/null |
-        sed -e 's|^target/log/\(.*\)\.out$|proving \1|' -e 's|^target/must-fail/\(.*\)\.out$|trying the edit \1|' |
-        sort | awk '{ printf "%s%s", NR == 1 ? ": " : ", ", $0 }'
+    [ -n "$prover" ] || return 0
+    ps -s "$prover" -o args= 2>/dev/null |
+        sed -n 's|^[^ ]*/rattle [a-z]* --crate-name \([a-z0-9_]*\) .*|proving \1|p' |
+        sort -u | awk '{ printf "%s%s", NR == 1 ? ": " : ", ", $0 }'
 }
 
 # how wide the terminal on standard error is

@@ -1,5 +1,6 @@
 # The benchmark for a machine that the kit does not compile for: the module that rattle hands its clang, turned to the
-# machine and compiled there, and the C sides by the same clang. Sourced by run, which has taken a room, behind tools/c/kit.sh.
+# machine and compiled there, and the C sides by the same clang. Sourced by run, which has taken a room, behind tools/c/kit.sh,
+# tools/progress.sh and tools/archive/face.sh.
 # MACHINE, CC and START name another machine's kind, linker and emulator, to try this without one.
 machine=${MACHINE:-$(uname -m)}
 target=$machine-unknown-linux-gnu
@@ -30,18 +31,7 @@ listening_toolchain() {
 
 # module FACE: its module, in a form that can be read; the crate is proved again, over the libraries that tools/archive/run has proved.
 module() {
-    face=$1
-    set -- --extern "std=$own/rlib/std.rlib"
-    for crate in $(sed -n "s/^$face: //p" crates.txt); do
-        set -- "$@" --extern "$crate=target/rlib/$crate.rlib"
-    done
-    "$own/bin/rattle" build --crate-name "$face" "crates/$face/src/lib.rt" "$@" \
-        -L dependency=target/rlib -L "dependency=$own/rlib" \
-        --antt-project "$own/../../logic/antt-project.json" --logic-built "$own/logic-built" \
-        --toolchain "$room/toolchain" --crate-type staticlib -o "$room/listened.a" >"$room/module.log" 2>&1 || {
-        cat "$room/module.log" >&2
-        return 1
-    }
+    compile_face "$1_c" "$room/toolchain" "$room/listened.a"
     "$tools/bin/clang" --target=x86_64-unknown-linux-gnu -O0 -Xclang -disable-llvm-passes -S -emit-llvm -x ir \
         "$room/module.bc" -o "$room/module.ll"
 }

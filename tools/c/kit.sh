@@ -6,8 +6,7 @@ command -v rt >/dev/null 2>&1 || {
 target=x86_64-unknown-linux-gnu
 rt=$(readlink -f "$(command -v rt)")
 kit=${RATTLE_HOME:-$(dirname "$(dirname "$rt")")}
-own=$kit/on/$(uname -m)
-tools=$own/toolchain
+tools=$kit/toolchain
 emulator=$tools/bin/qemu-x86_64
 [ -x "$emulator" ] || emulator=
 
@@ -42,7 +41,7 @@ compile() {
 link() {
     program=$1
     shift
-    "$own/bin/rattle-link" --target $target --toolchain "$tools" -o "$program" "$@" >"$program.log" 2>&1 || {
+    "$kit/bin/rattle-link" --target $target --toolchain "$tools" -o "$program" "$@" >"$program.log" 2>&1 || {
         cat "$program.log" >&2
         return 1
     }

@@ -58,8 +58,7 @@ pub fn check(list: &[u16]) -> Checked
 }
 
 // The checker, for C.
-#[unsafe(no_mangle)]
-pub extern "C" fn ovenlute_check(list: &[u16]) -> Checked
+pub fn ovenlute_check(list: &[u16]) -> Checked
     ensures { Promise list.now result }
 {
     check(list)

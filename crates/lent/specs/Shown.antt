@@ -2,7 +2,7 @@
 use Rattle.std.specs.Prelude.{ℕ, List}
 use Rattle.numbers.specs.declared.place.WordIndex.{WordIndex}
 use Rattle.player.specs.declared.Upshot.{Upshot}
-use Rattle.player.specs.Shown as Any
+use Rattle.player.specs.Shown as AnyPlayer
 use Rattle.player.specs.declared.State.TheVariants.{Stopped}
 use Rattle.player.specs.Player.{fault, Outcome}
 use Rattle.player.specs.Shown.{halted}
@@ -14,14 +14,14 @@ use Rattle.fetch.specs.declared.source.Taken.{Taken}
 use Rattle.fetch.specs.declared.source.Taken.TheVariants.{Refused, Got}
 
 abbrev pub Shown : Type 0
-Shown = Any.Shown Env
+Shown = AnyPlayer.Shown Env
 
 abbrev pub seen : Upshot → Env → List ℕ → Shown
-seen u e p = Any.seen frame u e p
+seen u e p = AnyPlayer.seen frame u e p
 
 -- a refusal stops the environment and changes no other part of it
 abbrev pub shown : Outcome Env → Env → Shown
-shown o e = Any.shown (λ v x. stated (Stopped v) x) o e
+shown o e = AnyPlayer.shown (λ v x. stated (Stopped v) x) o e
 
 -- a rule carried out, with the next opcode at an index
 unfoldable pub does : (Env → Rule) → WordIndex → Env → List ℕ → Shown

@@ -110,8 +110,7 @@ pub fn mend(list: &mut [u16], report: &mut [u32]) -> Mended
 }
 
 // The mender, for C.
-#[unsafe(no_mangle)]
-pub extern "C" fn ovenlute_mend(list: &mut [u16], report: &mut [u32]) -> Mended
+pub fn ovenlute_mend(list: &mut [u16], report: &mut [u32]) -> Mended
     ensures { Promise list.old report.old result list.new report.new }
 {
     mend(list, report)

@@ -115,9 +115,8 @@ pub struct Done {
     pub steps: u32,
 }
 
-// The same run over an environment that is lent, and changed there: the function that C calls.
-#[unsafe(no_mangle)]
-pub extern "C" fn ovenlute_run(list: &[u16], screen: &mut [u8], env: &mut Env, budget: u32) -> Done
+// The same run over an environment that is lent, and changed there: the function that ovenlute_c gives C.
+pub fn ovenlute_run(list: &[u16], screen: &mut [u8], env: &mut Env, budget: u32) -> Done
     ensures { Promise list.now screen.old env.old budget
         (record { number = result.number; place = result.place; env = env.new; steps = result.steps }) screen.new }
 {
@@ -132,24 +131,21 @@ pub extern "C" fn ovenlute_run(list: &[u16], screen: &mut [u8], env: &mut Env, b
 }
 
 // The making of a fresh environment, for C.
-#[unsafe(no_mangle)]
-pub extern "C" fn ovenlute_fresh(width: u32, height: u32, pane: Pane) -> Made
+pub fn ovenlute_fresh(width: u32, height: u32, pane: Pane) -> Made
     ensures { Fresh.Promise (record { width = width; height = height; pane = pane }) result }
 {
     fresh(width, height, pane)
 }
 
 // How many dots of a dashed line light up, for C.
-#[unsafe(no_mangle)]
-pub extern "C" fn ovenlute_lit(length: u32, pattern: u32) -> LitDots
+pub fn ovenlute_lit(length: u32, pattern: u32) -> LitDots
     ensures { result ≡ lit_of length pattern }
 {
     lit(length, pattern)
 }
 
 // The words for a number, for C.
-#[unsafe(no_mangle)]
-pub extern "C" fn ovenlute_text(number: u8) -> Words
+pub fn ovenlute_text(number: u8) -> Words
     ensures { result ≡ words_of (text_of number) }
 {
     words_for(number)

@@ -94,21 +94,14 @@ pub fn replay(list: &[u16], screen: &mut [u8], env: Env, lines: &[u8]) -> Replay
 }
 
 // The same for C.
-#[unsafe(no_mangle)]
-pub extern "C" fn ovenlute_replay(
-    list: &[u16],
-    screen: &mut [u8],
-    env: Env,
-    lines: &[u8],
-) -> Replayed
+pub fn ovenlute_replay(list: &[u16], screen: &mut [u8], env: Env, lines: &[u8]) -> Replayed
     ensures { Promise list.now lines.now env screen.old result screen.new }
 {
     replay(list, screen, env, lines)
 }
 
 // One block more of a record, for C.
-#[unsafe(no_mangle)]
-pub extern "C" fn ovenlute_record(
+pub fn ovenlute_record(
     lines: &mut [u8],
     used: usize,
     budget: u64,

@@ -85,8 +85,7 @@ pub fn who(list: &[u16], env: Env, budget: u32, dot: Dot) -> Writer
 }
 
 // The same for C.
-#[unsafe(no_mangle)]
-pub extern "C" fn ovenlute_who(list: &[u16], env: Env, budget: u32, dot: Dot) -> Writer
+pub fn ovenlute_who(list: &[u16], env: Env, budget: u32, dot: Dot) -> Writer
     ensures { Promise list.now env budget dot result }
 {
     who(list, env, budget, dot)
