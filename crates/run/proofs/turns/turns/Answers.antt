@@ -1,6 +1,7 @@
 -- `turns`: the run from the start is the run from here, with what is left of the budget.
-use mathlib.Core.Path.{refl, sym, ◌∙◌}
+use mathlib.Core.Path.{◌≡◌, refl, sym, ◌∙◌}
 use Rattle.brush.proofs.Brushes.{unasked}
+use Rattle.player.specs.declared.Upshot.TheVariants.{Brushed}
 use Rattle.player.specs.Shown.{marks, brushed}
 use Rattle.player.proofs.Turning.{Turned, painting, turned-painting, turned-quiet, not-carried-out, rest, stop, used_up}
 use Rattle.rules.specs.Environment.{frame}
@@ -45,7 +46,8 @@ paint-requires c =
     let r = i.invariant.0.ready in
     let before = look b i.cells i.points i.vars i.stack in
     let after = look b z.cells z.points z.vars z.stack in
-    let shows = painting (afgis a.words.now) frame before i.screen after z.brush (c.step-upshot.ensures.tells b) c.in-Brushed.is in
+    let held : c.step-upshot.result ≡ Brushed = assumption in
+    let shows = painting (afgis a.words.now) frame before i.screen after z.brush (c.step-upshot.ensures.tells b) held in
     let ranges = leaves-fits _ r.few before r.ranges _ (marks (brushed (frame after) z.brush)) shows in
     record { fitting = may-draw after i.screen (c.frame.ensures z.vars z.stack) r.size ranges r.area; near = c.step-upshot.ensures.brush.1 }
 
