@@ -5,7 +5,7 @@ use crate::checked::check;
 use crate::fresh::fresh;
 use crate::lit_dots::lit;
 use crate::print;
-use crate::run::run;
+use crate::runs::run;
 use crate::screen::{SCREEN, clear};
 use desk::command::{Command, command_of, well_formed};
 use desk::desk::{Carried, Desk, fine, wrong};
@@ -16,6 +16,7 @@ use text::items::item;
 use text::number::{Number, unsigned};
 
 pub fn carry_out(
+    out: &impl Print,
     line: &[u8],
     desk: Desk,
     words: &mut [u16; WORDS],
@@ -30,24 +31,24 @@ pub fn carry_out(
     }
     match command {
         Command::Nothing => fine(desk),
-        Command::Heading => heading(line, desk),
-        Command::Fresh => fresh(line, desk, screen),
+        Command::Heading => heading(out, line, desk),
+        Command::Fresh => fresh(out, line, desk, screen),
         Command::Set => set_field(desk, item(line, 1), item(line, 2)),
         Command::Bytes => bytes(line, desk, screen),
         Command::Budget => budget(line, desk),
         Command::List => list(line, desk, words),
-        Command::Run => run(desk, words, screen),
-        Command::Lit => lit(line, desk),
-        Command::Check => check(desk, words),
+        Command::Run => run(out, desk, words, screen),
+        Command::Lit => lit(out, line, desk),
+        Command::Check => check(out, desk, words),
         Command::Unknown => wrong(desk, Fault::Unknown),
     }
 }
 
-fn heading(line: &[u8], desk: Desk) -> Carried
+fn heading(out: &impl Print, line: &[u8], desk: Desk) -> Carried
     requires { WithinRooms desk }
     ensures { WithinRooms result.desk }
 {
-    print::line(line);
+    print::line(out, line);
     fine(desk)
 }
 

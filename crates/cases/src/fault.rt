@@ -2,18 +2,18 @@
 use crate::print::{count, line};
 use desk::fault::Fault;
 
-pub fn complain(number: usize, fault: Fault) {
-    count(b"line ", number);
+pub fn complain(out: &impl Print, number: usize, fault: Fault) {
+    count(out, b"line ", number);
     match fault {
-        Fault::Unknown => line(b": unknown command"),
-        Fault::Missing => line(b": a word is missing"),
-        Fault::Extra => line(b": a word too many"),
-        Fault::NoNumber => line(b": not a decimal number"),
-        Fault::Range => line(b": a number out of its range"),
-        Fault::NoField => line(b": no field of that name"),
-        Fault::NoWord => line(b": not a word of four hexadecimal digits"),
-        Fault::TooMany => line(b": a list of more than 65537 words"),
-        Fault::TooLong => line(b": a line of more than 4096 bytes"),
-        Fault::Unended => line(b": no line feed at the end"),
+        Fault::Unknown => line(out, b": unknown command"),
+        Fault::Missing => line(out, b": a word is missing"),
+        Fault::Extra => line(out, b": a word too many"),
+        Fault::NoNumber => line(out, b": not a decimal number"),
+        Fault::Range => line(out, b": a number out of its range"),
+        Fault::NoField => line(out, b": no field of that name"),
+        Fault::NoWord => line(out, b": not a word of four hexadecimal digits"),
+        Fault::TooMany => line(out, b": a list of more than 65537 words"),
+        Fault::TooLong => line(out, b": a line of more than 4096 bytes"),
+        Fault::Unended => line(out, b": no line feed at the end"),
     }
 }

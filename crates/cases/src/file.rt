@@ -10,7 +10,9 @@ use crate::screen::SCREEN;
 use desk::desk::{Carried, Desk, wrong};
 use desk::fault::{Fault, Outcome};
 use desk::list::WORDS;
+use outside::file::read_full;
 use raster::frame::Pane;
+use std::io::Read;
 use text::items::find;
 
 // The file's room: a file that fills it is too large.
@@ -21,25 +23,32 @@ const LONGEST: usize = 4096;
 
 // Reads the file, and carries out its lines.
 pub fn go_through(
-    fd: i32,
+    out: &impl Print,
+    file: &mut impl Read,
     text: &mut [u8; TEXT],
     words: &mut [u16; WORDS],
     screen: &mut [u8; SCREEN],
 ) {
-    let bytes = io::read_full(fd, text);
+    let bytes = read_full(file, text);
     if bytes == 0 {
-        line(b"the file of cases is empty or cannot be read");
+        line(out, b"the file of cases is empty or cannot be read");
         return;
     }
     if bytes == TEXT {
-        line(b"the file of cases has 1048576 bytes or more");
+        line(out, b"the file of cases has 1048576 bytes or more");
         return;
     }
-    each_line(text, bytes, words, screen);
+    each_line(out, text, bytes, words, screen);
 }
 
 // Carries out the lines of the first `bytes` bytes, up to the first line that is wrong.
-fn each_line(room: &[u8], bytes: usize, words: &mut [u16; WORDS], screen: &mut [u8; SCREEN])
+fn each_line(
+    out: &impl Print,
+    room: &[u8],
+    bytes: usize,
+    words: &mut [u16; WORDS],
+    screen: &mut [u8; SCREEN],
+)
     requires { bytes ≤ length room.now }
 {
     let text = &room[..bytes];
@@ -48,10 +57,10 @@ fn each_line(room: &[u8], bytes: usize, words: &mut [u16; WORDS], screen: &mut [
     let mut number = 1;
     while at < text.len() {
         let end = find(text, at, b'\n');
-        let carried = one_line(text, at, end, desk, words, screen);
+        let carried = one_line(out, text, at, end, desk, words, screen);
         let outcome = carried.outcome;
         if let Outcome::Wrong(fault) = outcome {
-            complain(number, fault);
+            complain(out, number, fault);
             return;
         }
         desk = carried.desk;
@@ -81,6 +90,7 @@ fn first_desk() -> Desk
 }
 
 fn one_line(
+    out: &impl Print,
     text: &[u8],
     from: usize,
     to: usize,
@@ -98,5 +108,5 @@ fn one_line(
     if LONGEST < to - from {
         return wrong(desk, Fault::TooLong);
     }
-    carry_out(&text[from..to], desk, words, screen)
+    carry_out(out, &text[from..to], desk, words, screen)
 }

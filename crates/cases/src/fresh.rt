@@ -9,7 +9,7 @@ use desk::size::{area, read_six};
 use raster::frame::Pane;
 use rules::answer::Made;
 
-pub fn fresh(line: &[u8], desk: Desk, screen: &mut [u8; SCREEN]) -> Carried
+pub fn fresh(out: &impl Print, line: &[u8], desk: Desk, screen: &mut [u8; SCREEN]) -> Carried
     requires { WithinRooms desk }
     ensures { WithinRooms result.desk }
 {
@@ -28,8 +28,8 @@ pub fn fresh(line: &[u8], desk: Desk, screen: &mut [u8; SCREEN]) -> Carried
         bottom: n[5],
     };
     let made = made_of(n[0], n[1], pane);
-    count(b"made ", made.number as usize);
-    end_line();
+    count(out, b"made ", made.number as usize);
+    end_line(out);
     let env = made.env;
     fine(Desk {
         env,

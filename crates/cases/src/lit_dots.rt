@@ -9,35 +9,35 @@ use lit::LitDots;
 use text::items::item;
 use text::number::{Number, unsigned};
 
-pub fn lit(line: &[u8], desk: Desk) -> Carried
+pub fn lit(out: &impl Print, line: &[u8], desk: Desk) -> Carried
     requires { WithinRooms desk }
     ensures { WithinRooms result.desk }
 {
     let read = unsigned(item(line, 1));
     match read {
-        Number::Is(length) => lit_by(length, item(line, 2), desk),
+        Number::Is(length) => lit_by(out, length, item(line, 2), desk),
         Number::Wrong(flaw) => wrong(desk, fault_of(flaw)),
     }
 }
 
-fn lit_by(length: u32, pattern: &[u8], desk: Desk) -> Carried
+fn lit_by(out: &impl Print, length: u32, pattern: &[u8], desk: Desk) -> Carried
     requires { WithinRooms desk }
     ensures { WithinRooms result.desk }
 {
     let read = unsigned(pattern);
     match read {
         Number::Is(bits) => {
-            print_lit(counted(length, bits));
+            print_lit(out, counted(length, bits));
             fine(desk)
         }
         Number::Wrong(flaw) => wrong(desk, fault_of(flaw)),
     }
 }
 
-fn print_lit(dots: LitDots) {
-    count(b"lit ", dots.number as usize);
-    print::unsigned(b" count ", dots.count);
-    end_line();
+fn print_lit(out: &impl Print, dots: LitDots) {
+    count(out, b"lit ", dots.number as usize);
+    print::unsigned(out, b" count ", dots.count);
+    end_line(out);
 }
 
 // What the box counts, with none of its promises: no proof here leans on them.

@@ -19,18 +19,18 @@ pub fn clear(screen: &mut [u8], bytes: usize)
 }
 
 // Row by row: all rows of a small screen, and of a larger one those that are not all zeros.
-pub fn print_screen(screen: &[u8], width: usize) {
-    count(b"screen ", screen.len());
-    end_line();
+pub fn print_screen(out: &impl Print, screen: &[u8], width: usize) {
+    count(out, b"screen ", screen.len());
+    end_line(out);
     let mut at = 0;
     let mut row = 0;
     while at < screen.len() {
         let end = row_end(screen, at, width);
         let bytes = &screen[at..end];
         if is_small(screen, width) {
-            print_row(bytes);
+            print_row(out, bytes);
         } else {
-            print_long_row(row, bytes);
+            print_long_row(out, row, bytes);
         }
         at = end;
         row += 1;
@@ -57,45 +57,45 @@ fn is_small(screen: &[u8], width: usize) -> bool {
 }
 
 // The bytes as numbers.
-fn print_row(bytes: &[u8]) {
+fn print_row(out: &impl Print, bytes: &[u8]) {
     let mut i = 0;
     while i < bytes.len() {
-        print_byte(i, bytes[i]);
+        print_byte(out, i, bytes[i]);
         i += 1;
     }
-    end_line();
+    end_line(out);
 }
 
 // A byte, behind a space unless it stands first.
-fn print_byte(at: usize, byte: u8) {
+fn print_byte(out: &impl Print, at: usize, byte: u8) {
     if 0 < at {
-        text(b" ");
+        text(out, b" ");
     }
-    count(b"", byte as usize);
+    count(out, b"", byte as usize);
 }
 
 // The row's number and its runs of equal bytes, unless all are zeros.
-fn print_long_row(row: usize, bytes: &[u8]) {
+fn print_long_row(out: &impl Print, row: usize, bytes: &[u8]) {
     if run_end(bytes, 0, 0) == bytes.len() {
         return;
     }
-    count(b"row ", row);
-    text(b": ");
-    print_runs(bytes);
+    count(out, b"row ", row);
+    text(out, b": ");
+    print_runs(out, bytes);
 }
 
-fn print_runs(bytes: &[u8]) {
+fn print_runs(out: &impl Print, bytes: &[u8]) {
     let mut at = 0;
     while at < bytes.len() {
         let byte = bytes[at];
         let end = run_end(bytes, at + 1, byte);
-        print_byte(at, byte);
+        print_byte(out, at, byte);
         if 1 < end - at {
-            count(b"*", end - at);
+            count(out, b"*", end - at);
         }
         at = end;
     }
-    end_line();
+    end_line(out);
 }
 
 // The first index at or behind `from` where another byte stands; the length where there is none.

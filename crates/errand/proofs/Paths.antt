@@ -49,9 +49,9 @@ by_first [] n = absurd (n refl)
 by_first (b ∷ bs) n = refl
 
 module _ (page name : List ℕ) {t : Bool} (e : t ≡ from_top name) where
-  pub from_top : t ≡ true → [] ≡ folder_for page name
+  pub from_above : t ≡ true → [] ≡ folder_for page name
   unfolding folder_for
-  from_top h = sym (ap (λ (b : Bool). cond b [] (take (behind_slash 0 0 page) page)) (sym e ∙ h))
+  from_above h = sym (ap (λ (b : Bool). cond b [] (take (behind_slash 0 0 page) page)) (sym e ∙ h))
 
   pub from-here : t ≡ false → {n : ℕ} → n ≡ behind_slash 0 0 page → take n page ≡ folder_for page name
   unfolding folder_for

@@ -6,6 +6,7 @@ ghost use Rattle.errand.specs.Panes.{whole as wholeScreen};
 use crate::number::{is_number, number};
 use crate::say::{no_number, usage};
 use check::same;
+use outside::arguments::{arg, arg_count};
 use raster::frame::Pane;
 use text::items::item;
 
@@ -56,58 +57,60 @@ pub enum Wish {
 // The largest budget, and that of a list where none is given.
 pub const BUDGET: u32 = 1_000_000;
 
-pub fn asked() -> Wish {
-    if is(1, b"check") {
-        return check_asked(2);
+pub fn asked(rt: HostRuntime) -> Wish {
+    if is(rt, 1, b"check") {
+        return check_asked(rt, 2);
     }
-    if is(1, b"mend") {
-        return mend_asked(2);
+    if is(rt, 1, b"mend") {
+        return mend_asked(rt, 2);
     }
-    if is(1, b"who") {
-        return who_asked(2);
+    if is(rt, 1, b"who") {
+        return who_asked(rt, 2);
     }
-    if is(1, b"ppm") {
-        return behind(2, Form::Ppm);
+    if is(rt, 1, b"ppm") {
+        return behind(rt, 2, Form::Ppm);
     }
-    if is(1, b"png") {
-        return behind(2, Form::Png);
+    if is(rt, 1, b"png") {
+        return behind(rt, 2, Form::Png);
     }
-    if is(1, b"cells") {
+    if is(rt, 1, b"cells") {
         return behind(
+            rt,
             5,
             Form::Cells(Window {
-                columns: argument(2),
-                rows: argument(3),
-                bits: argument(4),
+                columns: argument(rt, 2),
+                rows: argument(rt, 3),
+                bits: argument(rt, 4),
             }),
         );
     }
-    wrong()
+    wrong(rt)
 }
 
-fn wrong() -> Wish {
-    usage();
+fn wrong(rt: HostRuntime) -> Wish {
+    usage(&rt.stderr());
     Wish::Wrong
 }
 
-fn is(i: usize, word: &[u8]) -> bool {
+fn is(rt: HostRuntime, i: usize, word: &[u8]) -> bool {
     let mut room = [0u8; 8];
-    let n = os::arg(i, &mut room);
+    let n = arg(&rt, i, &mut room);
     same(&room[..n], word)
 }
 
-fn argument(i: usize) -> u32 {
+fn argument(rt: HostRuntime, i: usize) -> u32 {
     let mut digits = io::buffer();
-    let n = os::arg(i, &mut digits);
+    let n = arg(&rt, i, &mut digits);
     number(&digits[..n])
 }
 
 // The picture that is asked for by the arguments from `first` on.
-fn behind(first: usize, form: Form) -> Wish
+fn behind(rt: HostRuntime, first: usize, form: Form) -> Wish
     requires { first ≤ 5 }
 {
-    if is(first, b"painted") {
+    if is(rt, first, b"painted") {
         return picture_asked(
+            rt,
             first + 1,
             Look {
                 form,
@@ -116,6 +119,7 @@ fn behind(first: usize, form: Form) -> Wish
         );
     }
     picture_asked(
+        rt,
         first,
         Look {
             form,
@@ -124,110 +128,114 @@ fn behind(first: usize, form: Form) -> Wish
     )
 }
 
-fn picture_asked(first: usize, look: Look) -> Wish
+fn picture_asked(rt: HostRuntime, first: usize, look: Look) -> Wish
     requires { first ≤ 6 }
 {
-    if is(first, b"page") {
-        return page_asked(first + 1, look);
+    if is(rt, first, b"page") {
+        return page_asked(rt, first + 1, look);
     }
-    list_asked(first, look)
+    list_asked(rt, first, look)
 }
 
-fn check_asked(first: usize) -> Wish {
-    if from(first) == 1 {
+fn check_asked(rt: HostRuntime, first: usize) -> Wish {
+    if from(rt, first) == 1 {
         return Wish::Check(first);
     }
-    wrong()
+    wrong(rt)
 }
 
-fn mend_asked(first: usize) -> Wish {
-    if from(first) == 1 {
+fn mend_asked(rt: HostRuntime, first: usize) -> Wish {
+    if from(rt, first) == 1 {
         return Wish::Mend(first);
     }
-    wrong()
+    wrong(rt)
 }
 
-fn page_asked(first: usize, look: Look) -> Wish
+fn page_asked(rt: HostRuntime, first: usize, look: Look) -> Wish
     requires { first ≤ 7 }
 {
-    let n = from(first);
+    let n = from(rt, first);
     match n {
         3 => page_or_wrong(
-            numbers(first, b"width height"),
-            on_whole(first, BUDGET),
+            numbers(rt, first, b"width height"),
+            on_whole(rt, first, BUDGET),
             look,
         ),
         4 => page_or_wrong(
-            numbers(first, b"width height budget"),
-            on_whole(first, argument(first + 3)),
+            numbers(rt, first, b"width height budget"),
+            on_whole(rt, first, argument(rt, first + 3)),
             look,
         ),
-        _ => wrong(),
+        _ => wrong(rt),
     }
 }
 
-fn list_asked(first: usize, look: Look) -> Wish
+fn list_asked(rt: HostRuntime, first: usize, look: Look) -> Wish
     requires { first ≤ 6 }
 {
-    let n = from(first);
+    let n = from(rt, first);
     match n {
         3 => list_or_wrong(
-            numbers(first, b"width height"),
-            on_whole(first, BUDGET),
+            numbers(rt, first, b"width height"),
+            on_whole(rt, first, BUDGET),
             look,
         ),
         4 => list_or_wrong(
-            numbers(first, b"width height budget"),
-            on_whole(first, argument(first + 3)),
+            numbers(rt, first, b"width height budget"),
+            on_whole(rt, first, argument(rt, first + 3)),
             look,
         ),
         7 => list_or_wrong(
-            numbers(first, b"width height left top right bottom"),
-            on_part(first, first + 3, BUDGET),
+            numbers(rt, first, b"width height left top right bottom"),
+            on_part(rt, first, first + 3, BUDGET),
             look,
         ),
         8 => list_or_wrong(
-            numbers(first, b"width height left top right bottom budget"),
-            on_part(first, first + 3, argument(first + 7)),
+            numbers(rt, first, b"width height left top right bottom budget"),
+            on_part(rt, first, first + 3, argument(rt, first + 7)),
             look,
         ),
-        _ => wrong(),
+        _ => wrong(rt),
     }
 }
 
 // The dot stands between the size and the pane.
-fn who_asked(first: usize) -> Wish
+fn who_asked(rt: HostRuntime, first: usize) -> Wish
     requires { first ≤ 2 }
 {
-    let n = from(first);
+    let n = from(rt, first);
     match n {
         5 => who_or_wrong(
-            numbers(first, b"width height x y"),
-            on_whole(first, BUDGET),
+            rt,
+            numbers(rt, first, b"width height x y"),
+            on_whole(rt, first, BUDGET),
             first + 3,
         ),
         6 => who_or_wrong(
-            numbers(first, b"width height x y budget"),
-            on_whole(first, argument(first + 5)),
+            rt,
+            numbers(rt, first, b"width height x y budget"),
+            on_whole(rt, first, argument(rt, first + 5)),
             first + 3,
         ),
         9 => who_or_wrong(
-            numbers(first, b"width height x y left top right bottom"),
-            on_part(first, first + 5, BUDGET),
+            rt,
+            numbers(rt, first, b"width height x y left top right bottom"),
+            on_part(rt, first, first + 5, BUDGET),
             first + 3,
         ),
         10 => who_or_wrong(
-            numbers(first, b"width height x y left top right bottom budget"),
-            on_part(first, first + 5, argument(first + 9)),
+            rt,
+            numbers(rt, first, b"width height x y left top right bottom budget"),
+            on_part(rt, first, first + 5, argument(rt, first + 9)),
             first + 3,
         ),
-        _ => wrong(),
+        _ => wrong(rt),
     }
 }
 
 // How many arguments there are from `first` on.
-fn from(first: usize) -> usize {
-    let count = os::arg_count();
+fn from(rt: HostRuntime, first: usize) -> usize {
+    let count = arg_count(&rt);
     if count < first { 0 } else { count - first }
 }
 
@@ -248,25 +256,25 @@ fn list_or_wrong(right: bool, given: Given, look: Look) -> Wish {
 }
 
 // The dot's column is argument `at`, its row the next.
-fn who_or_wrong(right: bool, given: Given, at: usize) -> Wish
+fn who_or_wrong(rt: HostRuntime, right: bool, given: Given, at: usize) -> Wish
     requires { at ≤ 5 }
 {
     if right {
-        Wish::Who(given, argument(at), argument(at + 1))
+        Wish::Who(given, argument(rt, at), argument(rt, at + 1))
     } else {
         Wish::Wrong
     }
 }
 
 // Whether all arguments behind `first` are numbers; the first that is none gets a line, under its name.
-fn numbers(first: usize, names: &[u8]) -> bool
+fn numbers(rt: HostRuntime, first: usize, names: &[u8]) -> bool
     requires { first ≤ 7 }
 {
-    let count = os::arg_count();
+    let count = arg_count(&rt);
     let mut i = first + 1;
     let mut k = 0;
     while i < count {
-        if !is_number_at(i, item(names, k)) {
+        if !is_number_at(rt, i, item(names, k)) {
             return false;
         }
         i += 1;
@@ -275,23 +283,23 @@ fn numbers(first: usize, names: &[u8]) -> bool
     true
 }
 
-fn is_number_at(i: usize, name: &[u8]) -> bool {
+fn is_number_at(rt: HostRuntime, i: usize, name: &[u8]) -> bool {
     let mut room = io::buffer();
-    let n = os::arg(i, &mut room);
+    let n = arg(&rt, i, &mut room);
     let given = &room[..n];
     if is_number(given) {
         return true;
     }
-    no_number(b"play", name, given);
+    no_number(&rt.stderr(), b"play", name, given);
     false
 }
 
 // The whole screen for a pane.
-fn on_whole(first: usize, budget: u32) -> Given
+fn on_whole(rt: HostRuntime, first: usize, budget: u32) -> Given
     requires { first ≤ 7 }
 {
-    let width = argument(first + 1);
-    let height = argument(first + 2);
+    let width = argument(rt, first + 1);
+    let height = argument(rt, first + 2);
     let pane = whole(width, height);
     Given {
         first,
@@ -315,19 +323,19 @@ fn whole(width: u32, height: u32) -> Pane
 }
 
 // The pane whose four numbers begin with argument `at`.
-fn on_part(first: usize, at: usize, budget: u32) -> Given
+fn on_part(rt: HostRuntime, first: usize, at: usize, budget: u32) -> Given
     requires first_bound { first ≤ 6 }
     requires at_bound { at ≤ 9 }
 {
     Given {
         first,
-        width: argument(first + 1),
-        height: argument(first + 2),
+        width: argument(rt, first + 1),
+        height: argument(rt, first + 2),
         pane: Pane {
-            left: argument(at),
-            top: argument(at + 1),
-            right: argument(at + 2),
-            bottom: argument(at + 3),
+            left: argument(rt, at),
+            top: argument(rt, at + 1),
+            right: argument(rt, at + 2),
+            bottom: argument(rt, at + 3),
         },
         budget,
     }

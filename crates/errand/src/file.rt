@@ -5,6 +5,8 @@ ghost use Rattle.errand.specs.Words.{word as word_of, words_in};
 
 use crate::say::complain;
 use crate::span::{Span, bytes_of};
+use outside::fail::fail;
+use outside::file::read_file;
 
 // Where what was read ends in its room; or a line has told why nothing was.
 #[derive(Clone, Copy)]
@@ -17,62 +19,58 @@ pub enum Read {
 const LIST: usize = 131073;
 
 // Puts the file's bytes at the start of the room, as far as they fit; `told` is what a message calls the file.
-fn load(path: &[u8], told: &[u8], room: &mut [u8]) -> Read {
-    let fd = os::open_read(path);
-    if fd < 0 {
-        os::fail(told);
-        return Read::Refused;
+fn load(rt: HostRuntime, path: &[u8], told: &[u8], room: &mut [u8]) -> Read {
+    match read_file(&rt, path, room) {
+        Ok(n) => Read::To(n),
+        Err(error) => {
+            fail(&rt.stderr(), told, error);
+            Read::Refused
+        }
     }
-    let read = fill(fd, told, room);
-    libc::close(fd);
-    read
-}
-
-fn fill(fd: i32, told: &[u8], room: &mut [u8]) -> Read {
-    let got = libc::read(fd, room);
-    if got < 0 {
-        os::fail(told);
-        return Read::Refused;
-    }
-    let n = io::count(got, room);
-    let more = io::read_full(fd, &mut room[n..]);
-    Read::To(n + more)
 }
 
 // Puts the page's text at the start of the room.
-pub fn load_page(path: &[u8], room: &mut [u8]) -> Read {
-    let Read::To(end) = load(path, path, room) else {
+pub fn load_page(rt: HostRuntime, path: &[u8], room: &mut [u8]) -> Read {
+    let Read::To(end) = load(rt, path, path, room) else {
         return Read::Refused;
     };
     if room.len() <= end {
-        complain(path, b"a page of more than 4,095 bytes");
+        complain(&rt.stderr(), path, b"a page of more than 4,095 bytes");
         return Read::Refused;
     }
     Read::To(end)
 }
 
 // Puts the list's words into the room, from `from` on.
-pub fn load_list(path: &[u8], told: &[u8], words: &mut [u16], from: usize) -> Read {
+pub fn load_list(
+    rt: HostRuntime,
+    path: &[u8],
+    told: &[u8],
+    words: &mut [u16],
+    from: usize,
+) -> Read {
     let mut bytes = [0u8; LIST];
-    read_list(path, told, &mut bytes, words, from)
+    read_list(rt, path, told, &mut bytes, words, from)
 }
 
 fn read_list(
+    rt: HostRuntime,
     path: &[u8],
     told: &[u8],
     bytes: &mut [u8; LIST],
     words: &mut [u16],
     from: usize,
 ) -> Read {
-    let Read::To(end) = load(path, told, bytes) else {
+    let Read::To(end) = load(rt, path, told, bytes) else {
         return Read::Refused;
     };
     if bytes.len() <= end {
-        complain(told, b"a list of more than 65,536 words");
+        complain(&rt.stderr(), told, b"a list of more than 65,536 words");
         return Read::Refused;
     }
     if end % 2 == 1 {
         complain(
+            &rt.stderr(),
             told,
             b"an odd number of bytes: a list is words of two bytes, low byte first",
         );

@@ -1,5 +1,6 @@
 // What `play` is asked: its arguments, the lines of a page, the names and words of lists; and the lines that say what is wrong.
 #![tactic(auto)]
+
 pub mod arguments; // what the arguments ask for
 pub mod file; // reads a file, and the words of a list
 pub mod line; // a line of a page

@@ -18,16 +18,16 @@ pub fn has_no_list(line: &[u8]) -> bool
 }
 
 // Whether a line is LIST and four numbers; it gets a line where it is not.
-pub fn is_sound(line: &[u8], at: &[u8]) -> bool {
+pub fn is_sound(to: &impl Print, line: &[u8], at: &[u8]) -> bool {
     if !has_five_items(line) {
-        complain(at, b"a line is LIST LEFT TOP RIGHT BOTTOM");
+        complain(to, at, b"a line is LIST LEFT TOP RIGHT BOTTOM");
         return false;
     }
     let mut k = 0;
     while k < 4 {
         let number = item(line, k + 1);
         if !is_number(number) {
-            no_number(at, item(b"left top right bottom", k), number);
+            no_number(to, at, item(b"left top right bottom", k), number);
             return false;
         }
         k += 1;

@@ -4,94 +4,94 @@ use crate::digits::{decimal, hexadecimal, index};
 use crate::words::{put_words, tell};
 use errand::say::say;
 use forms::form_of;
-use libc::STDERR_FILENO;
 use names::{name_of, variables_of};
 use numbers::place::{VarNo, WordIndex};
 use rules::opcode::Form;
 
 // Of an environment that was stopped: the number, the index of the opcode, and the place.
-pub fn tell_place(list: &[u16], number: u8, opcode: WordIndex, place: WordIndex) {
+pub fn tell_place(to: &impl Print, list: &[u16], number: u8, opcode: WordIndex, place: WordIndex) {
     match number {
-        20 => tell_due(place),
-        21 => tell_word(list, place),
-        23 => tell_operand(list, opcode, place),
+        20 => tell_due(to, place),
+        21 => tell_word(to, list, place),
+        23 => tell_operand(to, list, opcode, place),
         _ => {
-            say(b": ");
-            tell_opcode(STDERR_FILENO, list, opcode);
+            say(to, b": ");
+            tell_opcode(to, list, opcode);
         }
     }
 }
 
 // The line of a list that the checker refuses: the number, what it means, and the place, which 13 and 31 do not have.
-pub fn tell_fault(name: &[u8], list: &[u16], number: u8, place: WordIndex) {
+pub fn tell_fault(to: &impl Print, name: &[u8], list: &[u16], number: u8, place: WordIndex) {
     match number {
-        13 | 31 => tell(name, number),
-        21 => tell_foreign(name, list, place),
+        13 | 31 => tell(to, name, number),
+        21 => tell_foreign(to, name, list, place),
         _ => {
-            tell(name, number);
-            tell_place(list, number, place, place);
+            tell(to, name, number);
+            tell_place(to, list, number, place, place);
         }
     }
-    say(b"\n");
+    say(to, b"\n");
 }
 
 // A word that is no opcode; or an opcode that no list has which surely finishes.
-fn tell_foreign(name: &[u8], list: &[u16], place: WordIndex) {
+fn tell_foreign(to: &impl Print, name: &[u8], list: &[u16], place: WordIndex) {
     let form = form_at(list, place);
     match form {
         Form::Unknown => {
-            tell(name, 21);
-            tell_word(list, place);
+            tell(to, name, 21);
+            tell_word(to, list, place);
         }
         _ => {
-            say(name);
-            say(b": 21, foreign to lists that surely finish: ");
-            tell_opcode(STDERR_FILENO, list, place);
+            say(to, name);
+            say(to, b": 21, foreign to lists that surely finish: ");
+            tell_opcode(to, list, place);
         }
     }
 }
 
 // ': word 0366', where an opcode was due.
-fn tell_due(place: WordIndex) {
-    say(b": word ");
-    index(STDERR_FILENO, place);
+fn tell_due(to: &impl Print, place: WordIndex) {
+    say(to, b": word ");
+    index(to, place);
 }
 
 // ': 2023 at 0000', the word that is no opcode.
-fn tell_word(list: &[u16], place: WordIndex) {
-    say(b": ");
-    hexadecimal(STDERR_FILENO, word(list, place));
-    say(b" at ");
-    index(STDERR_FILENO, place);
+fn tell_word(to: &impl Print, list: &[u16], place: WordIndex) {
+    say(to, b": ");
+    hexadecimal(to, word(list, place));
+    say(to, b" at ");
+    index(to, place);
 }
 
 // 'CLIPWINV at 0365'
-pub(crate) fn tell_opcode(to: i32, list: &[u16], opcode: WordIndex) {
+pub(crate) fn tell_opcode(to: &impl Print, list: &[u16], opcode: WordIndex) {
     put_words(to, name_of(form_at(list, opcode)));
-    io::write_all(to, b" at ");
+    say(to, b" at ");
     index(to, opcode);
 }
 
 // ': word 0366 of CLIPWINV at 0365, V61 to V64'
-fn tell_operand(list: &[u16], opcode: WordIndex, place: WordIndex) {
-    say(b": word ");
-    index(STDERR_FILENO, place);
-    say(b" of ");
-    tell_opcode(STDERR_FILENO, list, opcode);
-    say(b", ");
+fn tell_operand(to: &impl Print, list: &[u16], opcode: WordIndex, place: WordIndex) {
+    say(to, b": word ");
+    index(to, place);
+    say(to, b" of ");
+    tell_opcode(to, list, opcode);
+    say(to, b", ");
     tell_variables(
+        to,
         VarNo(word(list, place)),
         variables_of(form_at(list, opcode)),
     );
 }
 
 // The first of so many variables and the last.
-fn tell_variables(first: VarNo, count: u16) {
-    say(b"V");
-    decimal(STDERR_FILENO, first.0 as u32);
+fn tell_variables(to: &impl Print, first: VarNo, count: u16) {
+    say(to, b"V");
+    decimal(to, first.0 as u32);
     if 1 < count {
-        say(b" to V");
-        decimal(STDERR_FILENO, (first.0 as u32) + (count as u32) - 1);
+        say(to, b" to V");
+        decimal(to, (first.0 as u32) + (count as u32) - 1);
     }
 }
 

@@ -2,26 +2,25 @@
 use crate::digits::decimal;
 use errand::say::say;
 use errand::span::{Span, bytes_of};
-use libc::STDERR_FILENO;
 use wording::{Words, words_for};
 
 // The number that a list is refused with, and what it means.
-pub fn refuse(name: &[u8], number: u8) {
-    tell(name, number);
-    say(b"\n");
+pub fn refuse(to: &impl Print, name: &[u8], number: u8) {
+    tell(to, name, number);
+    say(to, b"\n");
 }
 
 // NAME: NUMBER, what it means.
-pub fn tell(name: &[u8], number: u8) {
-    say(name);
-    say(b": ");
-    decimal(STDERR_FILENO, number as u32);
-    say(b", ");
-    put_words(STDERR_FILENO, words_for(number));
+pub fn tell(to: &impl Print, name: &[u8], number: u8) {
+    say(to, name);
+    say(to, b": ");
+    decimal(to, number as u32);
+    say(to, b", ");
+    put_words(to, words_for(number));
 }
 
-pub(crate) fn put_words(to: i32, words: Words) {
+pub(crate) fn put_words(to: &impl Print, words: Words) {
     let end = words.length as usize;
     let text = words.text;
-    io::write_all(to, bytes_of(&text, Span { from: 0, to: end }));
+    say(to, bytes_of(&text, Span { from: 0, to: end }));
 }

@@ -3,11 +3,11 @@ use crate::digits::decimal;
 use crate::place::tell_opcode;
 use crate::words::tell;
 use errand::say::say;
-use libc::STDOUT_FILENO;
 use numbers::place::WordIndex;
 
 // NAME: (X, Y): step STEP, LINE at 035A, colour COLOUR
 pub fn tell_step(
+    to: &impl Print,
     name: &[u8],
     x: u32,
     y: u32,
@@ -16,40 +16,36 @@ pub fn tell_step(
     opcode: WordIndex,
     colour: u8,
 ) {
-    tell_dot(name, x, y);
-    put(b"step ");
-    decimal(STDOUT_FILENO, step);
-    put(b", ");
-    tell_opcode(STDOUT_FILENO, list, opcode);
-    put(b", colour ");
-    decimal(STDOUT_FILENO, colour as u32);
-    put(b"\n");
+    tell_dot(to, name, x, y);
+    say(to, b"step ");
+    decimal(to, step);
+    say(to, b", ");
+    tell_opcode(to, list, opcode);
+    say(to, b", colour ");
+    decimal(to, colour as u32);
+    say(to, b"\n");
 }
 
 // NAME: (X, Y): no step painted it
-pub fn tell_no_step(name: &[u8], x: u32, y: u32) {
-    tell_dot(name, x, y);
-    put(b"no step painted it\n");
+pub fn tell_no_step(to: &impl Print, name: &[u8], x: u32, y: u32) {
+    tell_dot(to, name, x, y);
+    say(to, b"no step painted it\n");
 }
 
-fn tell_dot(name: &[u8], x: u32, y: u32) {
-    put(name);
-    put(b": (");
-    decimal(STDOUT_FILENO, x);
-    put(b", ");
-    decimal(STDOUT_FILENO, y);
-    put(b"): ");
-}
-
-fn put(text: &[u8]) {
-    io::write_all(STDOUT_FILENO, text);
+fn tell_dot(to: &impl Print, name: &[u8], x: u32, y: u32) {
+    say(to, name);
+    say(to, b": (");
+    decimal(to, x);
+    say(to, b", ");
+    decimal(to, y);
+    say(to, b"): ");
 }
 
 // The number that the question is refused with: with 25 it is the dot that is meant.
-pub fn refuse_dot(number: u8) {
+pub fn refuse_dot(to: &impl Print, number: u8) {
     match number {
-        25 => say(b"play: 25, the dot is outside the screen"),
-        _ => tell(b"play", number),
+        25 => say(to, b"play: 25, the dot is outside the screen"),
+        _ => tell(to, b"play", number),
     }
-    say(b"\n");
+    say(to, b"\n");
 }

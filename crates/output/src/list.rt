@@ -4,28 +4,27 @@ ghost use Rattle.std.proofs.lemmas.List.Edits.{sets};
 ghost use Rattle.io.specs.Counts.{IsPrefixLen};
 ghost use Rattle.output.specs.Bytes.{low_of, high_of, bytes_of};
 
-use crate::{part_end, put};
+use crate::part_end;
+use std::io::Error;
 
 // Words in a part.
 const PART: usize = 32768;
 
-// Answers whether all of it could be written.
-pub fn write_list(list: &[u16]) -> bool {
+// Ok where all of it could be written, and else why not.
+pub fn write_list(out: &impl Print, list: &[u16]) -> Result<(), Error> {
     let mut from = 0;
     while from < list.len() {
         let to = part_end(from, PART, list.len());
-        if !write_part(&list[from..to]) {
-            return false;
-        }
+        write_part(out, &list[from..to])?;
         from = to;
     }
-    true
+    Ok(())
 }
 
-fn write_part(words: &[u16]) -> bool {
+fn write_part(out: &impl Print, words: &[u16]) -> Result<(), Error> {
     let mut room = io::large_buffer();
     let n = put_bytes(words, &mut room);
-    put(&room[..n])
+    out.write_all(&room[..n])
 }
 
 // Puts two bytes for each word into the room, as many as fit, and answers where they end.

@@ -71,25 +71,34 @@ fn refused(page: Page) -> Page
 }
 
 // The page that the lines of a text make.
-pub fn page_of(text: &[u8], path: &[u8], given: Given, words: &mut [u16]) -> Page {
+pub fn page_of(rt: HostRuntime, text: &[u8], path: &[u8], given: Given, words: &mut [u16]) -> Page {
     let mut page = empty();
     let mut from = 0;
     let mut number = 0;
     while from < text.len() {
         let to = find(text, from, b'\n');
         number = std::num::wrapping_add_u32(number, 1);
-        page = with_line(page, text, Span { from, to }, path, number, given, words);
+        page = with_line(
+            rt,
+            page,
+            text,
+            Span { from, to },
+            path,
+            number,
+            given,
+            words,
+        );
         if !page.sound {
             return page;
         }
         from = to + 1;
     }
-    with_some_list(page, path)
+    with_some_list(rt, page, path)
 }
 
-fn with_some_list(page: Page, path: &[u8]) -> Page {
+fn with_some_list(rt: HostRuntime, page: Page, path: &[u8]) -> Page {
     if page.count == 0 {
-        complain(path, b"a page without a list");
+        complain(&rt.stderr(), path, b"a page without a list");
         return refused(page);
     }
     page
@@ -97,6 +106,7 @@ fn with_some_list(page: Page, path: &[u8]) -> Page {
 
 // The page with the list of line `number` more.
 fn with_line(
+    rt: HostRuntime,
     page: Page,
     text: &[u8],
     line: Span,
@@ -112,7 +122,7 @@ fn with_line(
     let mut room = io::buffer();
     let n = place(path, number, &mut room);
     let at = bytes_of(&room, Span { from: 0, to: n });
-    if !is_sound(s, at) {
+    if !is_sound(&rt.stderr(), s, at) {
         return refused(page);
     }
     let mut g = given;
@@ -120,7 +130,7 @@ fn with_line(
     let made = fresh(g);
     let refusal = made.number;
     if refusal != 0 {
-        refuse(at, refusal);
+        refuse(&rt.stderr(), at, refusal);
         return refused(page);
     }
     let from = line.from;
@@ -129,6 +139,7 @@ fn with_line(
         to: find(text, from, b' '),
     };
     with_file(
+        rt,
         page,
         at,
         path,
@@ -142,6 +153,7 @@ fn with_line(
 
 // The page with the list of that name more, which is looked for beside the page.
 fn with_file(
+    rt: HostRuntime,
     page: Page,
     at: &[u8],
     path: &[u8],
@@ -156,6 +168,7 @@ fn with_file(
     let n = beside(path, name, &mut file);
     let m = label(at, name, &mut told);
     with_list(
+        rt,
         page,
         bytes_of(&file, Span { from: 0, to: n }),
         bytes_of(&told, Span { from: 0, to: m }),
@@ -168,6 +181,7 @@ fn with_file(
 
 // The page with one list more, in a file; `told` is what a message calls it, and `name` where its name stands for the report.
 pub fn with_list(
+    rt: HostRuntime,
     page: Page,
     path: &[u8],
     told: &[u8],
@@ -177,11 +191,11 @@ pub fn with_list(
     words: &mut [u16],
 ) -> Page {
     if PLACES <= page.count {
-        complain(told, b"a page has 8 lists at most");
+        complain(&rt.stderr(), told, b"a page has 8 lists at most");
         return refused(page);
     }
     let from = page.used;
-    let Read::To(to) = load_list(path, told, words, from) else {
+    let Read::To(to) = load_list(rt, path, told, words, from) else {
         return refused(page);
     };
     with_playing(

@@ -3,13 +3,12 @@ use crate::end::{Ends, none_yet, with_number};
 use crate::page::{PLACES, Page, Playing};
 use errand::say::say;
 use errand::span::{bytes_of, words_of};
-use libc::STDERR_FILENO;
 use messages::digits::{decimal, index};
 use messages::place::tell_place;
 use messages::words::tell;
 
 // A line for each list; answers how they ended.
-pub fn report(names: &[u8], words: &[u16], page: Page) -> Ends {
+pub fn report(to: &impl Print, names: &[u8], words: &[u16], page: Page) -> Ends {
     let mut ends = none_yet();
     let mut k = 0;
     while k < PLACES {
@@ -18,6 +17,7 @@ pub fn report(names: &[u8], words: &[u16], page: Page) -> Ends {
         }
         let playing = page.lists[k];
         line(
+            to,
             bytes_of(names, playing.name),
             words_of(words, playing.words),
             playing,
@@ -28,18 +28,18 @@ pub fn report(names: &[u8], words: &[u16], page: Page) -> Ends {
     ends
 }
 
-fn line(name: &[u8], list: &[u16], playing: Playing) {
+fn line(to: &impl Print, name: &[u8], list: &[u16], playing: Playing) {
     let counter = playing.env.registers.counter;
     let number = playing.number;
-    tell(name, number);
+    tell(to, name, number);
     if 20 <= number {
-        tell_place(list, number, counter, playing.env.registers.place);
+        tell_place(to, list, number, counter, playing.env.registers.place);
     }
-    say(b": steps ");
-    decimal(STDERR_FILENO, playing.steps);
-    say(b", counter ");
-    index(STDERR_FILENO, counter);
-    say(b" (");
-    decimal(STDERR_FILENO, counter.0);
-    say(b")\n");
+    say(to, b": steps ");
+    decimal(to, playing.steps);
+    say(to, b", counter ");
+    index(to, counter);
+    say(to, b" (");
+    decimal(to, counter.0);
+    say(to, b")\n");
 }

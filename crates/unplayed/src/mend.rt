@@ -5,24 +5,32 @@ use mender::Mended;
 use messages::mended::tell_mending;
 use messages::words::refuse;
 use output::list::write_list;
+use outside::arguments::arg;
+use outside::fail::fail;
 
 // Three numbers for each of 65,536 words: room for every change.
 const REPORT: usize = 196608;
 
 // The list whose name is argument `at`; answers whether the mended one was written.
-pub fn mend_list(at: usize, words: &mut [u16]) -> bool {
+pub fn mend_list(rt: HostRuntime, at: usize, words: &mut [u16]) -> bool {
     let mut room = io::buffer();
-    let n = os::arg(at, &mut room);
+    let n = arg(&rt, at, &mut room);
     let name = bytes_of(&room, Span { from: 0, to: n });
-    let Read::To(to) = load_list(name, name, words, 0) else {
+    let Read::To(to) = load_list(rt, name, name, words, 0) else {
         return false;
     };
     let mut report = [0u32; REPORT];
-    mend_words(name, words, to, &mut report)
+    mend_words(rt, name, words, to, &mut report)
 }
 
 // The first `to` words.
-fn mend_words(name: &[u8], words: &mut [u16], to: usize, report: &mut [u32; REPORT]) -> bool {
+fn mend_words(
+    rt: HostRuntime,
+    name: &[u8],
+    words: &mut [u16],
+    to: usize,
+    report: &mut [u32; REPORT],
+) -> bool {
     if words.len() < to {
         return false;
     }
@@ -30,14 +38,14 @@ fn mend_words(name: &[u8], words: &mut [u16], to: usize, report: &mut [u32; REPO
     let answer = mended(list, report);
     let number = answer.number;
     if number != 0 {
-        refuse(name, number);
+        refuse(&rt.stderr(), name, number);
         return false;
     }
-    if !write_list(list) {
-        os::fail(b"standard output");
+    if let Err(error) = write_list(&rt.stdout(), list) {
+        fail(&rt.stderr(), b"standard output", error);
         return false;
     }
-    tell_mending(name, report, answer.changes);
+    tell_mending(&rt.stderr(), name, report, answer.changes);
     true
 }
 
