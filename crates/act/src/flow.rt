@@ -3,46 +3,32 @@ ghost use Rattle.std.specs.Prelude.{◌≡◌, ℕ};
 ghost use Rattle.rules.specs.Op as Op;
 ghost use Rattle.rules.specs.Environment.{Env, goto};
 ghost use Rattle.rules.specs.Opcodes.{jumps, calls, rule};
-ghost use Rattle.lent.specs.Lent.{CellsFull};
-ghost use Rattle.lent.specs.Shown.{does, answers};
-ghost use Rattle.act.specs.Conditions as Conditions;
-ghost use Rattle.act.specs.Aims as Aims;
+ghost use Rattle.lent.specs.Shown.{does};
 ghost use Rattle.lent.specs.Leaves.{Goes, Stacks, Stacked};
+ghost use Rattle.act.specs.Aims as Aims;
+ghost use Rattle.act.specs.Conditions as Conditions;
 
-use fetch::source::Taken;
-use lent::registers::{Cells, depth, finish, first, refuse, second, set_depth, set_ended, stop};
-use lent::stack::{Stack, stack_at, stacked_at};
+use fetch::source::Fetched;
+use lent::Stack;
 use numbers::arith::{equal, less};
-use numbers::place::{BitAddress, Target, WordIndex, word_at, word_from};
+use numbers::place::{BitAddress, WordIndex, word_at, word_from};
 use player::Upshot;
-use rules::opcode::Operands;
+use player::refusal::Refusal;
+use rules::environment::Registers;
 
-#[derive(Clone, Copy)]
-pub enum Condition {
-    NotAllowed,
-    Met,
-    Unmet,
-}
-
-fn meeting(b: bool) -> Condition
-    ensures { result ≡ Conditions.meeting b }
-{
-    if b { Condition::Met } else { Condition::Unmet }
-}
-
-// The seven conditions, by 004's numbers.
-fn condition_of(k: u32, first: u32, second: u32) -> Condition
-    ensures { result ≡ Conditions.condition_of k first second }
+// Whether condition k, by 004's numbers, is met by the values last compared; None where there is no such condition.
+fn is_met(k: u32, first: u32, second: u32) -> Option<bool>
+    ensures { result ≡ Conditions.is_met k first second }
 {
     match k {
-        0x0 => Condition::Met,
-        0x4 => meeting(less(first, second)),
-        0x5 => meeting(!less(first, second)),
-        0x6 => meeting(!less(second, first)),
-        0x7 => meeting(less(second, first)),
-        0xA => meeting(equal(first, second)),
-        0xB => meeting(!equal(first, second)),
-        _ => Condition::NotAllowed,
+        0x0 => Some(true),
+        0x4 => Some(less(first, second)),
+        0x5 => Some(!less(first, second)),
+        0x6 => Some(!less(second, first)),
+        0x7 => Some(less(second, first)),
+        0xA => Some(equal(first, second)),
+        0xB => Some(!equal(first, second)),
+        _ => None,
     }
 }
 
@@ -54,7 +40,7 @@ enum Aim {
 }
 
 // Where that is.
-fn aimed(aim: Aim, n: u32, next: WordIndex, count: u32) -> Target
+fn aimed(aim: Aim, n: u32, next: WordIndex, count: u32) -> Option<WordIndex>
     ensures { (e : Env) → result ≡ Aims.aimed aim n count (goto next e) }
 {
     match aim {
@@ -64,133 +50,98 @@ fn aimed(aim: Aim, n: u32, next: WordIndex, count: u32) -> Target
 }
 
 // A jump on condition k: one not taken does not look at its target.
-fn jump_to(k: u32, aim: Aim, n: u32, next: WordIndex, count: u32, cells: &mut Cells) -> Upshot
-    requires { CellsFull cells.old }
-    ensures { Goes result (does (λ e. jumps k (Aims.aimed aim n count e) e) next) cells.old cells.new }
+fn jump_to(k: u32, aim: Aim, n: u32, next: WordIndex, count: u32, registers: &mut Registers) -> Upshot
+    ensures { Goes result (does (λ e. jumps k (Aims.aimed aim n count e) e) next) registers.old registers.new }
 {
-    let c = condition_of(k, first(&*cells), second(&*cells));
-    match c {
-        Condition::NotAllowed => refuse(cells, 24),
-        Condition::Unmet => finish(cells, next),
-        Condition::Met => {
-            let t = aimed(aim, n, next, count);
-            match t {
-                Target::Refused => refuse(cells, 27),
-                Target::At(i) => finish(cells, i),
-            }
-        }
+    let met = is_met(k, registers.first, registers.second);
+    if met.ok_or(registers.refused(Refusal::NotAllowed))? {
+        let target = aimed(aim, n, next, count);
+        registers.counter = target.ok_or(registers.refused(Refusal::NoTarget))?;
+    } else {
+        registers.counter = next;
     }
+    Ok(None)
 }
 
 // a: the condition; b: the target's bit address.
-pub fn jump(t: Taken, count: u32, cells: &mut Cells) -> Upshot
-    requires { CellsFull cells.old }
-    ensures { Goes result (answers t (λ o. rule Op.Jump o count)) cells.old cells.new }
+pub fn jump(f: Fetched, count: u32, registers: &mut Registers) -> Upshot
+    ensures { Goes result (does (λ e. rule Op.Jump f.operands count e) f.next) registers.old registers.new }
 {
-    match t {
-        Taken::Refused(n, i) => stop(cells, n, i),
-        Taken::Got(o, next) => jump_to(o.a, Aim::Address, o.b, next, count, cells),
-    }
+    let o = f.operands;
+    jump_to(o.a, Aim::Address, o.b, f.next, count, registers)
 }
 
 // a: the condition; b: the offset in words.
-pub fn jump_by(t: Taken, count: u32, cells: &mut Cells) -> Upshot
-    requires { CellsFull cells.old }
-    ensures { Goes result (answers t (λ o. rule Op.JumpBy o count)) cells.old cells.new }
+pub fn jump_by(f: Fetched, count: u32, registers: &mut Registers) -> Upshot
+    ensures { Goes result (does (λ e. rule Op.JumpBy f.operands count e) f.next) registers.old registers.new }
 {
-    match t {
-        Taken::Refused(n, i) => stop(cells, n, i),
-        Taken::Got(o, next) => jump_to(o.a, Aim::Offset, o.b, next, count, cells),
-    }
+    let o = f.operands;
+    jump_to(o.a, Aim::Offset, o.b, f.next, count, registers)
 }
 
 // A call: the return index is the next opcode's.
-fn call_to(t: Target, next: WordIndex, cells: &mut Cells, stack: &mut Stack) -> Upshot
-    requires { Stacked cells.old stack.old }
-    ensures { Stacks result (does (calls t) next) cells.old cells.new stack.old stack.new }
+fn call_to(target: Option<WordIndex>, next: WordIndex, registers: &mut Registers, stack: &mut Stack) -> Upshot
+    requires { Stacked registers.old stack.old }
+    ensures { Stacks result (does (calls target) next) registers.old registers.new stack.old stack.new }
 {
-    match t {
-        Target::Refused => refuse(cells, 27),
-        Target::At(i) => {
-            let d = depth(&*cells);
-            if 16 <= d {
-                return refuse(cells, 28);
-            }
-            stack_at(stack, d, next);
-            set_depth(cells, d + 1);
-            finish(cells, i)
-        }
+    let target = target.ok_or(registers.refused(Refusal::NoTarget))?;
+    let depth = registers.depth;
+    if 16 <= depth {
+        return Err(registers.refused(Refusal::TooDeep));
     }
+    stack.returns[depth as usize] = next;
+    registers.depth = depth + 1;
+    registers.counter = target;
+    Ok(None)
 }
 
 // a: the target's bit address.
-pub fn call(t: Taken, count: u32, cells: &mut Cells, stack: &mut Stack) -> Upshot
-    requires { Stacked cells.old stack.old }
-    ensures { Stacks result (answers t (λ o. rule Op.Call o count))
-        cells.old cells.new stack.old stack.new }
+pub fn call(f: Fetched, count: u32, registers: &mut Registers, stack: &mut Stack) -> Upshot
+    requires { Stacked registers.old stack.old }
+    ensures { Stacks result (does (λ e. rule Op.Call f.operands count e) f.next)
+        registers.old registers.new stack.old stack.new }
 {
-    match t {
-        Taken::Refused(n, i) => stop(cells, n, i),
-        Taken::Got(o, next) => call_to(word_at(BitAddress(o.a), count), next, cells, stack),
-    }
+    let target = word_at(BitAddress(f.operands.a), count);
+    call_to(target, f.next, registers, stack)
 }
 
 // a: the offset in words.
-pub fn call_by(t: Taken, count: u32, cells: &mut Cells, stack: &mut Stack) -> Upshot
-    requires { Stacked cells.old stack.old }
-    ensures { Stacks result (answers t (λ o. rule Op.CallBy o count))
-        cells.old cells.new stack.old stack.new }
+pub fn call_by(f: Fetched, count: u32, registers: &mut Registers, stack: &mut Stack) -> Upshot
+    requires { Stacked registers.old stack.old }
+    ensures { Stacks result (does (λ e. rule Op.CallBy f.operands count e) f.next)
+        registers.old registers.new stack.old stack.new }
 {
-    match t {
-        Taken::Refused(n, i) => stop(cells, n, i),
-        Taken::Got(o, next) => call_to(word_from(next, o.a, count), next, cells, stack),
-    }
+    let target = word_from(f.next, f.operands.a, count);
+    call_to(target, f.next, registers, stack)
 }
 
 // To the last return stacked, untested.
-fn back(cells: &mut Cells, stack: &Stack) -> Upshot
-    requires { Stacked cells.old stack.now }
-    ensures { (o : Operands) (n : ℕ) (next : WordIndex)
-        → Stacks result (does (rule Op.Return o n) next) cells.old cells.new stack.now stack.now }
+pub fn come_back(f: Fetched, registers: &mut Registers, stack: &Stack) -> Upshot
+    requires { Stacked registers.old stack.now }
+    ensures { (n : ℕ) → Stacks result (does (λ e. rule Op.Return f.operands n e) f.next)
+        registers.old registers.new stack.now stack.now }
 {
-    let d = depth(&*cells);
-    if d == 0 {
-        return refuse(cells, 29);
+    let depth = registers.depth;
+    if depth == 0 {
+        return Err(registers.refused(Refusal::NoneOpen));
     }
-    set_depth(cells, d - 1);
-    finish(cells, stacked_at(stack, d - 1))
+    registers.depth = depth - 1;
+    registers.counter = stack.returns[(depth - 1) as usize];
+    Ok(None)
 }
 
-pub fn come_back(t: Taken, cells: &mut Cells, stack: &Stack) -> Upshot
-    requires { Stacked cells.old stack.now }
-    ensures { (n : ℕ) → Stacks result (answers t (λ o. rule Op.Return o n))
-        cells.old cells.new stack.now stack.now }
+pub fn noop(f: Fetched, registers: &mut Registers) -> Upshot
+    ensures { (n : ℕ) → Goes result (does (λ e. rule Op.Noop f.operands n e) f.next) registers.old registers.new }
 {
-    match t {
-        Taken::Refused(n, i) => stop(cells, n, i),
-        Taken::Got(_, _) => back(cells, stack),
-    }
+    registers.counter = f.next;
+    Ok(None)
 }
 
-pub fn noop(t: Taken, cells: &mut Cells) -> Upshot
-    requires { CellsFull cells.old }
-    ensures { (n : ℕ) → Goes result (answers t (λ o. rule Op.Noop o n)) cells.old cells.new }
+pub fn end(f: Fetched, registers: &mut Registers) -> Upshot
+    ensures { (n : ℕ) → Goes result (does (λ e. rule Op.End f.operands n e) f.next) registers.old registers.new }
 {
-    match t {
-        Taken::Refused(n, i) => stop(cells, n, i),
-        Taken::Got(_, next) => finish(cells, next),
-    }
-}
-
-pub fn end(t: Taken, cells: &mut Cells) -> Upshot
-    requires { CellsFull cells.old }
-    ensures { (n : ℕ) → Goes result (answers t (λ o. rule Op.End o n)) cells.old cells.new }
-{
-    match t {
-        Taken::Refused(n, i) => stop(cells, n, i),
-        Taken::Got(_, next) => {
-            set_ended(cells);
-            finish(cells, next)
-        }
-    }
+    registers.state = 1;
+    registers.place = WordIndex(0);
+    registers.counter = f.next;
+    Ok(None)
 }

@@ -1,52 +1,44 @@
 // Variables: loading, arithmetic, logic, and the two values compared. a: the value on the left; dest: Vd, on the right.
-ghost use Rattle.std.specs.Prelude.{◌≡◌, ℕ, ◌<◌, eqb};
-ghost use Rattle.numbers.specs.Number.{unless_zero};
+ghost use Rattle.std.specs.Prelude.{◌≡◌, ℕ, ◌<◌};
 ghost use Rattle.rules.specs.Operands.{at};
 ghost use Rattle.rules.specs.Op as Op;
-ghost use Rattle.rules.specs.Opcodes.{gives, refuse, rule};
-ghost use Rattle.fetch.specs.Stages.{Destined};
-ghost use Rattle.lent.specs.Lent.{CellsFull};
+ghost use Rattle.rules.specs.Opcodes.{gives, rule};
 ghost use Rattle.act.specs.Calculations as Calculations;
 ghost use Rattle.act.specs.Calculations.{op_of};
-ghost use Rattle.lent.specs.Shown.{does, answers};
+ghost use Rattle.lent.specs.Shown.{does};
 ghost use Rattle.lent.specs.Leaves.{Sets};
 
-use fetch::source::Taken;
-use lent::registers::{Cells, finish, keep_compared, refuse, stop};
+use fetch::source::Fetched;
 use numbers::arith;
-use numbers::arith::Division;
-use numbers::place::WordIndex;
 use player::Upshot;
+use player::refusal::Refusal;
+use rules::environment::Registers;
 use rules::opcode::Operands;
 
 // Vd's value.
-fn old(o: Operands, vars: &[u32; 64]) -> u32
+fn old(o: Operands, variables: &[u32; 64]) -> u32
     requires { o.dest.0 < 64 }
-    ensures { result ≡ at vars.now o.dest.0 }
+    ensures { result ≡ at variables.now o.dest.0 }
 {
-    let d = o.dest.0 as usize;
-    vars[d]
+    variables[o.dest.0 as usize]
 }
 
 // A value into Vd.
-fn put(o: Operands, next: WordIndex, v: u32, cells: &mut Cells, vars: &mut [u32; 64]) -> Upshot
-    requires { (o.dest.0 < 64) × CellsFull cells.old }
-    ensures { Sets result (does (gives v o) next) cells.old cells.new vars.old vars.new }
+fn put(f: Fetched, v: u32, registers: &mut Registers, variables: &mut [u32; 64]) -> Upshot
+    requires { f.operands.dest.0 < 64 }
+    ensures { Sets result (does (gives v f.operands) f.next) registers.old registers.new variables.old variables.new }
 {
-    let d = o.dest.0 as usize;
-    vars[d] = v;
-    finish(cells, next)
+    variables[f.operands.dest.0 as usize] = v;
+    registers.counter = f.next;
+    Ok(None)
 }
 
-pub fn load(t: Taken, cells: &mut Cells, vars: &mut [u32; 64]) -> Upshot
-    requires { Destined t × CellsFull cells.old }
-    ensures { (n : ℕ) → Sets result (answers t (λ o. rule Op.Load o n))
-        cells.old cells.new vars.old vars.new }
+pub fn load(f: Fetched, registers: &mut Registers, variables: &mut [u32; 64]) -> Upshot
+    requires { f.operands.dest.0 < 64 }
+    ensures { (n : ℕ) → Sets result (does (λ e. rule Op.Load f.operands n e) f.next)
+        registers.old registers.new variables.old variables.new }
 {
-    match t {
-        Taken::Refused(n, i) => stop(cells, n, i),
-        Taken::Got(o, next) => put(o, next, o.a, cells, vars),
-    }
+    put(f, f.operands.a, registers, variables)
 }
 
 // What is made of Vd's value and the operand.
@@ -73,125 +65,92 @@ fn calculated(c: Calculation, old: u32, a: u32) -> u32
     }
 }
 
-fn calculate(c: Calculation, t: Taken, cells: &mut Cells, vars: &mut [u32; 64]) -> Upshot
-    requires { Destined t × CellsFull cells.old }
-    ensures { (n : ℕ) → Sets result (answers t (λ o. rule (op_of c) o n))
-        cells.old cells.new vars.old vars.new }
+fn calculate(c: Calculation, f: Fetched, registers: &mut Registers, variables: &mut [u32; 64]) -> Upshot
+    requires { f.operands.dest.0 < 64 }
+    ensures { (n : ℕ) → Sets result (does (λ e. rule (op_of c) f.operands n e) f.next)
+        registers.old registers.new variables.old variables.new }
 {
-    match t {
-        Taken::Refused(n, i) => stop(cells, n, i),
-        Taken::Got(o, next) => {
-            let v = calculated(c, old(o, &*vars), o.a);
-            put(o, next, v, cells, vars)
-        }
-    }
+    let o = f.operands;
+    put(f, calculated(c, old(o, &*variables), o.a), registers, variables)
 }
 
-pub fn add(t: Taken, cells: &mut Cells, vars: &mut [u32; 64]) -> Upshot
-    requires { Destined t × CellsFull cells.old }
-    ensures { (n : ℕ) → Sets result (answers t (λ o. rule Op.Add o n))
-        cells.old cells.new vars.old vars.new }
+pub fn add(f: Fetched, registers: &mut Registers, variables: &mut [u32; 64]) -> Upshot
+    requires { f.operands.dest.0 < 64 }
+    ensures { (n : ℕ) → Sets result (does (λ e. rule Op.Add f.operands n e) f.next)
+        registers.old registers.new variables.old variables.new }
 {
-    calculate(Calculation::Sum, t, cells, vars)
+    calculate(Calculation::Sum, f, registers, variables)
 }
 
-pub fn and(t: Taken, cells: &mut Cells, vars: &mut [u32; 64]) -> Upshot
-    requires { Destined t × CellsFull cells.old }
-    ensures { (n : ℕ) → Sets result (answers t (λ o. rule Op.And o n))
-        cells.old cells.new vars.old vars.new }
+pub fn and(f: Fetched, registers: &mut Registers, variables: &mut [u32; 64]) -> Upshot
+    requires { f.operands.dest.0 < 64 }
+    ensures { (n : ℕ) → Sets result (does (λ e. rule Op.And f.operands n e) f.next)
+        registers.old registers.new variables.old variables.new }
 {
-    calculate(Calculation::And, t, cells, vars)
+    calculate(Calculation::And, f, registers, variables)
 }
 
-pub fn or(t: Taken, cells: &mut Cells, vars: &mut [u32; 64]) -> Upshot
-    requires { Destined t × CellsFull cells.old }
-    ensures { (n : ℕ) → Sets result (answers t (λ o. rule Op.Or o n))
-        cells.old cells.new vars.old vars.new }
+pub fn or(f: Fetched, registers: &mut Registers, variables: &mut [u32; 64]) -> Upshot
+    requires { f.operands.dest.0 < 64 }
+    ensures { (n : ℕ) → Sets result (does (λ e. rule Op.Or f.operands n e) f.next)
+        registers.old registers.new variables.old variables.new }
 {
-    calculate(Calculation::Or, t, cells, vars)
+    calculate(Calculation::Or, f, registers, variables)
 }
 
-pub fn multiply(t: Taken, cells: &mut Cells, vars: &mut [u32; 64]) -> Upshot
-    requires { Destined t × CellsFull cells.old }
-    ensures { (n : ℕ) → Sets result (answers t (λ o. rule Op.Multiply o n))
-        cells.old cells.new vars.old vars.new }
+pub fn multiply(f: Fetched, registers: &mut Registers, variables: &mut [u32; 64]) -> Upshot
+    requires { f.operands.dest.0 < 64 }
+    ensures { (n : ℕ) → Sets result (does (λ e. rule Op.Multiply f.operands n e) f.next)
+        registers.old registers.new variables.old variables.new }
 {
-    calculate(Calculation::Product, t, cells, vars)
+    calculate(Calculation::Product, f, registers, variables)
 }
 
-pub fn increment(t: Taken, cells: &mut Cells, vars: &mut [u32; 64]) -> Upshot
-    requires { Destined t × CellsFull cells.old }
-    ensures { (n : ℕ) → Sets result (answers t (λ o. rule Op.Increment o n))
-        cells.old cells.new vars.old vars.new }
+pub fn increment(f: Fetched, registers: &mut Registers, variables: &mut [u32; 64]) -> Upshot
+    requires { f.operands.dest.0 < 64 }
+    ensures { (n : ℕ) → Sets result (does (λ e. rule Op.Increment f.operands n e) f.next)
+        registers.old registers.new variables.old variables.new }
 {
-    calculate(Calculation::OneMore, t, cells, vars)
+    calculate(Calculation::OneMore, f, registers, variables)
 }
 
-pub fn decrement(t: Taken, cells: &mut Cells, vars: &mut [u32; 64]) -> Upshot
-    requires { Destined t × CellsFull cells.old }
-    ensures { (n : ℕ) → Sets result (answers t (λ o. rule Op.Decrement o n))
-        cells.old cells.new vars.old vars.new }
+pub fn decrement(f: Fetched, registers: &mut Registers, variables: &mut [u32; 64]) -> Upshot
+    requires { f.operands.dest.0 < 64 }
+    ensures { (n : ℕ) → Sets result (does (λ e. rule Op.Decrement f.operands n e) f.next)
+        registers.old registers.new variables.old variables.new }
 {
-    calculate(Calculation::OneLess, t, cells, vars)
+    calculate(Calculation::OneLess, f, registers, variables)
 }
 
-// A division's answer: into Vd, or 26.
-fn put_unless_zero(
-    o: Operands,
-    next: WordIndex,
-    x: Division,
-    cells: &mut Cells,
-    vars: &mut [u32; 64],
-) -> Upshot
-    requires { (o.dest.0 < 64) × CellsFull cells.old }
-    ensures { (v : ℕ) → x ≡ unless_zero o.a v
-        → Sets result (does (λ e. refuse 26 (eqb o.a 0) (gives v o e)) next) cells.old cells.new vars.old vars.new }
+pub fn divide(f: Fetched, registers: &mut Registers, variables: &mut [u32; 64]) -> Upshot
+    requires { f.operands.dest.0 < 64 }
+    ensures { (n : ℕ) → Sets result (does (λ e. rule Op.Divide f.operands n e) f.next)
+        registers.old registers.new variables.old variables.new }
 {
-    match x {
-        Division::ByZero => refuse(cells, 26),
-        Division::Gives(v) => put(o, next, v, cells, vars),
-    }
+    let o = f.operands;
+    let quotient = arith::quotient(old(o, &*variables), o.a);
+    put(f, quotient.ok_or(registers.refused(Refusal::ByZero))?, registers, variables)
 }
 
-pub fn divide(t: Taken, cells: &mut Cells, vars: &mut [u32; 64]) -> Upshot
-    requires { Destined t × CellsFull cells.old }
-    ensures { (n : ℕ) → Sets result (answers t (λ o. rule Op.Divide o n))
-        cells.old cells.new vars.old vars.new }
+pub fn remainder(f: Fetched, registers: &mut Registers, variables: &mut [u32; 64]) -> Upshot
+    requires { f.operands.dest.0 < 64 }
+    ensures { (n : ℕ) → Sets result (does (λ e. rule Op.Remainder f.operands n e) f.next)
+        registers.old registers.new variables.old variables.new }
 {
-    match t {
-        Taken::Refused(n, i) => stop(cells, n, i),
-        Taken::Got(o, next) => {
-            let x = arith::quotient(old(o, &*vars), o.a);
-            put_unless_zero(o, next, x, cells, vars)
-        }
-    }
-}
-
-pub fn remainder(t: Taken, cells: &mut Cells, vars: &mut [u32; 64]) -> Upshot
-    requires { Destined t × CellsFull cells.old }
-    ensures { (n : ℕ) → Sets result (answers t (λ o. rule Op.Remainder o n))
-        cells.old cells.new vars.old vars.new }
-{
-    match t {
-        Taken::Refused(n, i) => stop(cells, n, i),
-        Taken::Got(o, next) => {
-            let x = arith::remainder(old(o, &*vars), o.a);
-            put_unless_zero(o, next, x, cells, vars)
-        }
-    }
+    let o = f.operands;
+    let remainder = arith::remainder(old(o, &*variables), o.a);
+    put(f, remainder.ok_or(registers.refused(Refusal::ByZero))?, registers, variables)
 }
 
 // Vd's value is kept first, the other second.
-pub fn compare(t: Taken, cells: &mut Cells, vars: &[u32; 64]) -> Upshot
-    requires { Destined t × CellsFull cells.old }
-    ensures { (n : ℕ) → Sets result (answers t (λ o. rule Op.Compare o n))
-        cells.old cells.new vars.now vars.now }
+pub fn compare(f: Fetched, registers: &mut Registers, variables: &[u32; 64]) -> Upshot
+    requires { f.operands.dest.0 < 64 }
+    ensures { (n : ℕ) → Sets result (does (λ e. rule Op.Compare f.operands n e) f.next)
+        registers.old registers.new variables.now variables.now }
 {
-    match t {
-        Taken::Refused(n, i) => stop(cells, n, i),
-        Taken::Got(o, next) => {
-            keep_compared(cells, old(o, vars), o.a);
-            finish(cells, next)
-        }
-    }
+    let o = f.operands;
+    registers.first = old(o, variables);
+    registers.second = o.a;
+    registers.counter = f.next;
+    Ok(None)
 }

@@ -1,4 +1,2 @@
--- The laws that proofs cite, here and in the crates above:
-pub mod Spelt
-pub mod Brushes
-pub mod Placed
+-- What a brush's invariant says of what it holds.
+pub mod Held

@@ -1,68 +1,52 @@
-// Dots, lines, circles and clearing: what is to be painted is left in the brush, and Brushed answered, once the last check has passed.
-ghost use Rattle.std.specs.Prelude.{◌≡◌, ℕ};
+// Dots, lines, circles and clearing: what is to be painted is answered in a brush, once the last check has passed.
+ghost use Rattle.std.specs.Prelude.{◌≡◌, ℕ, true};
 ghost use Rattle.circles.specs.Circle as Circles;
-ghost use Rattle.brush.specs.Brush.{Full, Holds};
+ghost use Rattle.brush.specs.Brush.{shape_of};
+ghost use Rattle.brush.specs.Near.{is_near};
 ghost use Rattle.rules.specs.Environment.{moved};
 ghost use Rattle.rules.specs.Op as Op;
 ghost use Rattle.rules.specs.Opcodes as Opcodes;
-ghost use Rattle.rules.specs.Opcodes.{dots, typed, paints, rule};
-ghost use Rattle.lent.specs.Lent.{celled};
-ghost use Rattle.lent.specs.Shown.{does, answers};
-ghost use Rattle.lent.specs.Leaves.{Paints, Draws, Handed, Drawable, Logical};
+ghost use Rattle.rules.specs.Opcodes.{dot_fits, dots, typed as typed_shape, paints, rule};
+ghost use Rattle.lent.specs.Shown.{does};
+ghost use Rattle.lent.specs.Leaves.{Goes};
 
-use crate::point::{Point, Round, circle_of, point_by, point_of};
-use brush::{Brush, hold_all, hold_circle, hold_dashed, hold_dot, hold_line};
-use fetch::source::Taken;
-use lent::registers::{
-    Cells, Points, colour, finish_painting, pattern, position, refuse, set_position, stop,
-};
+use crate::point::{circle_of, point_by, point_of};
+use brush::{Brush, Figure};
+use fetch::source::Fetched;
 use lines::line::Line;
 use numbers::place::WordIndex;
 use numbers::value::low8;
 use player::Upshot;
+use player::refusal::Refusal;
 use raster::dots::Dot;
+use rules::environment::Registers;
 
 // One dot at the point (x, y).
-fn dot_at(x: u32, y: u32, c: u8, next: WordIndex, cells: &mut Cells, brush: &mut Brush) -> Upshot
-    requires { Handed cells.old brush.old }
-    ensures { Paints result (does (dots (Opcodes.point x y) c) next)
-        cells.old cells.new brush.new }
+fn dot_at(x: u32, y: u32, colour: u8, next: WordIndex, registers: &mut Registers) -> Upshot
+    ensures { Goes result (does (dots (Opcodes.point x y) colour) next) registers.old registers.new }
 {
-    let Point::At(p) = point_of(x, y) else {
-        return refuse(cells, 25);
-    };
-    hold_dot(brush, p, c);
-    finish_painting(cells, next)
+    let p = point_of(x, y).ok_or(registers.refused(Refusal::Outside))?;
+    registers.counter = next;
+    Ok(Some(Brush {
+        figure: Figure::Dot(p),
+        colour,
+    }))
 }
 
 // a, b: x and y.
-pub fn pixel(t: Taken, cells: &mut Cells, brush: &mut Brush) -> Upshot
-    requires { Handed cells.old brush.old }
-    ensures { (n : ℕ) → Paints result (answers t (λ o. rule Op.Pixel o n))
-        cells.old cells.new brush.new }
+pub fn pixel(f: Fetched, registers: &mut Registers) -> Upshot
+    ensures { (n : ℕ) → Goes result (does (λ e. rule Op.Pixel f.operands n e) f.next) registers.old registers.new }
 {
-    match t {
-        Taken::Refused(n, i) => stop(cells, n, i),
-        Taken::Got(o, next) => {
-            let c = colour(&*cells);
-            dot_at(o.a, o.b, c, next, cells, brush)
-        }
-    }
+    let o = f.operands;
+    dot_at(o.a, o.b, registers.colour, f.next, registers)
 }
 
 // a, b: x and y; c: the colour's long.
-pub fn pixel_colour(t: Taken, cells: &mut Cells, brush: &mut Brush) -> Upshot
-    requires { Handed cells.old brush.old }
-    ensures { (n : ℕ) → Paints result (answers t (λ o. rule Op.PixelColour o n))
-        cells.old cells.new brush.new }
+pub fn pixel_colour(f: Fetched, registers: &mut Registers) -> Upshot
+    ensures { (n : ℕ) → Goes result (does (λ e. rule Op.PixelColour f.operands n e) f.next) registers.old registers.new }
 {
-    match t {
-        Taken::Refused(n, i) => stop(cells, n, i),
-        Taken::Got(o, next) => {
-            let c = low8(o.c);
-            dot_at(o.a, o.b, c, next, cells, brush)
-        }
-    }
+    let o = f.operands;
+    dot_at(o.a, o.b, low8(o.c), f.next, registers)
 }
 
 // A type above the last one that is drawn.
@@ -72,136 +56,105 @@ fn other_type(last: u32, given: u32) -> bool
     last < given
 }
 
-// A line in the foreground colour: in type 0 all of it, else what the pattern paints.
-fn hold_typed(given: u32, l: Line, cells: &Cells, brush: &mut Brush)
-    requires full { Full brush.old }
-    requires logical { Logical l.from × Logical l.to }
-    ensures { Holds (typed given (celled cells.now).pattern l) (celled cells.now).colour brush.new }
+// A line: in type 0 all of it, else what the pattern paints.
+fn typed(given: u32, pattern: u32, l: Line) -> Figure
+    ensures shape { shape_of result ≡ typed_shape given pattern l }
+    ensures near { is_near result ≡ is_near (Figure.Line l) }
 {
-    let c = colour(cells);
     if given == 0 {
-        hold_line(brush, l, c);
+        Figure::Line(l)
     } else {
-        hold_dashed(brush, l, pattern(cells), c);
+        Figure::Dashed(l, pattern)
     }
 }
 
 // A line in the foreground colour. a: its type; b, c: x0 and y0; d, e: x1 and y1.
-pub fn line(t: Taken, cells: &mut Cells, brush: &mut Brush) -> Upshot
-    requires { Handed cells.old brush.old }
-    ensures { (n : ℕ) → Paints result (answers t (λ o. rule Op.Line o n))
-        cells.old cells.new brush.new }
+pub fn line(f: Fetched, registers: &mut Registers) -> Upshot
+    ensures { (n : ℕ) → Goes result (does (λ e. rule Op.Line f.operands n e) f.next) registers.old registers.new }
 {
-    match t {
-        Taken::Refused(n, i) => stop(cells, n, i),
-        Taken::Got(o, next) => {
-            if other_type(1, o.a) {
-                return refuse(cells, 24);
-            }
-            let Point::At(p) = point_of(o.b, o.c) else {
-                return refuse(cells, 25);
-            };
-            let Point::At(q) = point_of(o.d, o.e) else {
-                return refuse(cells, 25);
-            };
-            hold_typed(o.a, Line { from: p, to: q }, &*cells, brush);
-            finish_painting(cells, next)
-        }
+    let o = f.operands;
+    if other_type(1, o.a) {
+        return Err(registers.refused(Refusal::NotAllowed));
     }
+    let outside = registers.refused(Refusal::Outside);
+    let from = point_of(o.b, o.c).ok_or(outside)?;
+    let to = point_of(o.d, o.e).ok_or(outside)?;
+    registers.counter = f.next;
+    Ok(Some(Brush {
+        figure: typed(o.a, registers.pattern, Line { from, to }),
+        colour: registers.colour,
+    }))
 }
 
 // A line from the position to q, and the position there.
-fn draw_to(
-    given: u32,
-    q: Dot,
-    next: WordIndex,
-    cells: &mut Cells,
-    points: &mut Points,
-    brush: &mut Brush,
-) -> Upshot
-    requires { Drawable cells.old points.old brush.old × Logical q }
-    ensures { Draws result (does (λ e. paints (typed given e.pen.pattern (record { from = e.pen.position; to = q })) e.pen.colour (moved q e)) next)
-        cells.old cells.new points.old points.new brush.new }
+fn draw_to(given: u32, q: Dot, next: WordIndex, registers: &mut Registers) -> Upshot
+    requires { (dot_fits registers.old.position ≡ true) × (dot_fits q ≡ true) }
+    ensures { Goes result
+        (does (λ e. paints (typed_shape given e.pen.pattern (record { from = e.pen.position; to = q })) e.pen.colour (moved q e)) next)
+        registers.old registers.new }
 {
-    let here = position(&*points);
-    hold_typed(given, Line { from: here, to: q }, &*cells, brush);
-    set_position(points, q);
-    finish_painting(cells, next)
+    let from = registers.position;
+    registers.position = q;
+    registers.counter = next;
+    Ok(Some(Brush {
+        figure: typed(given, registers.pattern, Line { from, to: q }),
+        colour: registers.colour,
+    }))
 }
 
 // a: the line's type; b, c: x and y.
-pub fn line_to(t: Taken, cells: &mut Cells, points: &mut Points, brush: &mut Brush) -> Upshot
-    requires { Drawable cells.old points.old brush.old }
-    ensures { (n : ℕ) → Draws result (answers t (λ o. rule Op.LineTo o n))
-        cells.old cells.new points.old points.new brush.new }
+pub fn line_to(f: Fetched, registers: &mut Registers) -> Upshot
+    requires { dot_fits registers.old.position ≡ true }
+    ensures { (n : ℕ) → Goes result (does (λ e. rule Op.LineTo f.operands n e) f.next) registers.old registers.new }
 {
-    match t {
-        Taken::Refused(n, i) => stop(cells, n, i),
-        Taken::Got(o, next) => {
-            if other_type(1, o.a) {
-                return refuse(cells, 24);
-            }
-            let Point::At(q) = point_of(o.b, o.c) else {
-                return refuse(cells, 25);
-            };
-            draw_to(o.a, q, next, cells, points, brush)
-        }
+    let o = f.operands;
+    if other_type(1, o.a) {
+        return Err(registers.refused(Refusal::NotAllowed));
     }
+    let q = point_of(o.b, o.c).ok_or(registers.refused(Refusal::Outside))?;
+    draw_to(o.a, q, f.next, registers)
 }
 
 // a: the line's type; b, c: dx and dy.
-pub fn line_by(t: Taken, cells: &mut Cells, points: &mut Points, brush: &mut Brush) -> Upshot
-    requires { Drawable cells.old points.old brush.old }
-    ensures { (n : ℕ) → Draws result (answers t (λ o. rule Op.LineBy o n))
-        cells.old cells.new points.old points.new brush.new }
+pub fn line_by(f: Fetched, registers: &mut Registers) -> Upshot
+    requires { dot_fits registers.old.position ≡ true }
+    ensures { (n : ℕ) → Goes result (does (λ e. rule Op.LineBy f.operands n e) f.next) registers.old registers.new }
 {
-    match t {
-        Taken::Refused(n, i) => stop(cells, n, i),
-        Taken::Got(o, next) => {
-            if other_type(1, o.a) {
-                return refuse(cells, 24);
-            }
-            let here = position(&*points);
-            let Point::At(q) = point_by(here, o.b, o.c) else {
-                return refuse(cells, 25);
-            };
-            draw_to(o.a, q, next, cells, points, brush)
-        }
+    let o = f.operands;
+    if other_type(1, o.a) {
+        return Err(registers.refused(Refusal::NotAllowed));
     }
+    let q = point_by(registers.position, o.b, o.c).ok_or(registers.refused(Refusal::Outside))?;
+    draw_to(o.a, q, f.next, registers)
 }
 
 // A circle in the foreground colour, filled or the outline alone. a: its type; b, c: x and y of its centre; d: its radius.
-pub fn circle(t: Taken, filled: bool, cells: &mut Cells, brush: &mut Brush) -> Upshot
-    requires { Handed cells.old brush.old }
-    ensures { Paints result (answers t (Opcodes.circles (Circles.circle filled)))
-        cells.old cells.new brush.new }
+pub fn circle(f: Fetched, filled: bool, registers: &mut Registers) -> Upshot
+    ensures { Goes result (does (Opcodes.circles (Circles.circle filled) f.operands) f.next) registers.old registers.new }
 {
-    match t {
-        Taken::Refused(n, i) => stop(cells, n, i),
-        Taken::Got(o, next) => {
-            if other_type(0, o.a) {
-                return refuse(cells, 24);
-            }
-            let Round::At(k) = circle_of(o.b, o.c, o.d) else {
-                return refuse(cells, 25);
-            };
-            hold_circle(brush, k, filled, colour(&*cells));
-            finish_painting(cells, next)
-        }
+    let o = f.operands;
+    if other_type(0, o.a) {
+        return Err(registers.refused(Refusal::NotAllowed));
     }
+    let k = circle_of(o.b, o.c, o.d).ok_or(registers.refused(Refusal::Outside))?;
+    registers.counter = f.next;
+    Ok(Some(Brush {
+        figure: if filled {
+            Figure::Disc(k)
+        } else {
+            Figure::Outline(k)
+        },
+        colour: registers.colour,
+    }))
 }
 
 // Every drawable pixel. a: the colour's long; b: the wait word, which is ignored.
-pub fn clear(t: Taken, cells: &mut Cells, brush: &mut Brush) -> Upshot
-    requires { Handed cells.old brush.old }
-    ensures { (n : ℕ) → Paints result (answers t (λ o. rule Op.Clear o n))
-        cells.old cells.new brush.new }
+pub fn clear(f: Fetched, registers: &mut Registers) -> Upshot
+    ensures { (n : ℕ) → Goes result (does (λ e. rule Op.Clear f.operands n e) f.next) registers.old registers.new }
 {
-    match t {
-        Taken::Refused(n, i) => stop(cells, n, i),
-        Taken::Got(o, next) => {
-            hold_all(brush, low8(o.a));
-            finish_painting(cells, next)
-        }
-    }
+    registers.counter = f.next;
+    Ok(Some(Brush {
+        figure: Figure::Every,
+        colour: low8(f.operands.a),
+    }))
 }

@@ -3,36 +3,29 @@ ghost use Rattle.std.specs.Prelude.{◌≡◌, ℕ};
 ghost use Rattle.rules.specs.Op as Op;
 ghost use Rattle.rules.specs.Opcodes as Opcodes;
 ghost use Rattle.rules.specs.Opcodes.{rule};
-ghost use Rattle.lent.specs.Lent.{CellsFull, PointsFull};
-ghost use Rattle.lent.specs.Shown.{answers};
-ghost use Rattle.lent.specs.Leaves.{Goes, Moves};
+ghost use Rattle.lent.specs.Shown.{does};
+ghost use Rattle.lent.specs.Leaves.{Goes};
 
-use crate::point::{Point, point_by, point_of};
-use fetch::source::Taken;
-use lent::registers::{
-    Cells, Points, finish, position, refuse, set_colour, set_mode, set_origin, set_pattern,
-    set_position, set_window, stop,
-};
+use crate::point::{point_by, point_of};
+use fetch::source::Fetched;
 use numbers::value::low8;
 use player::Upshot;
+use player::refusal::Refusal;
 use raster::dots::Dot;
 use raster::frame::Window;
+use rules::environment::Registers;
 
 // a: the mode.
-pub fn clip_mode(t: Taken, cells: &mut Cells) -> Upshot
-    requires { CellsFull cells.old }
-    ensures { (n : ℕ) → Goes result (answers t (λ o. rule Op.ClipMode o n)) cells.old cells.new }
+pub fn clip_mode(f: Fetched, registers: &mut Registers) -> Upshot
+    ensures { (n : ℕ) → Goes result (does (λ e. rule Op.ClipMode f.operands n e) f.next) registers.old registers.new }
 {
-    match t {
-        Taken::Refused(n, i) => stop(cells, n, i),
-        Taken::Got(o, next) => {
-            if 2 < o.a {
-                return refuse(cells, 24);
-            }
-            set_mode(cells, o.a);
-            finish(cells, next)
-        }
+    let mode = f.operands.a;
+    if 2 < mode {
+        return Err(registers.refused(Refusal::NotAllowed));
     }
+    registers.mode = mode;
+    registers.counter = f.next;
+    Ok(None)
 }
 
 // The window of two corners.
@@ -48,105 +41,65 @@ fn window(p: Dot, q: Dot) -> Window
 }
 
 // a, b: x0 and y0; c, d: x1 and y1.
-pub fn clip_window(t: Taken, cells: &mut Cells, points: &mut Points) -> Upshot
-    requires { CellsFull cells.old × PointsFull points.old }
-    ensures { (n : ℕ) → Moves result (answers t (λ o. rule Op.ClipWindow o n))
-        cells.old cells.new points.old points.new }
+pub fn clip_window(f: Fetched, registers: &mut Registers) -> Upshot
+    ensures { (n : ℕ) → Goes result (does (λ e. rule Op.ClipWindow f.operands n e) f.next) registers.old registers.new }
 {
-    match t {
-        Taken::Refused(n, i) => stop(cells, n, i),
-        Taken::Got(o, next) => {
-            let Point::At(p) = point_of(o.a, o.b) else {
-                return refuse(cells, 25);
-            };
-            let Point::At(q) = point_of(o.c, o.d) else {
-                return refuse(cells, 25);
-            };
-            set_window(points, window(p, q));
-            finish(cells, next)
-        }
-    }
+    let o = f.operands;
+    let outside = registers.refused(Refusal::Outside);
+    let p = point_of(o.a, o.b).ok_or(outside)?;
+    let q = point_of(o.c, o.d).ok_or(outside)?;
+    registers.window = window(p, q);
+    registers.counter = f.next;
+    Ok(None)
 }
 
 // The low 8 bits. a: the colour's long.
-pub fn colour(t: Taken, cells: &mut Cells) -> Upshot
-    requires { CellsFull cells.old }
-    ensures { (n : ℕ) → Goes result (answers t (λ o. rule Op.Colour o n)) cells.old cells.new }
+pub fn colour(f: Fetched, registers: &mut Registers) -> Upshot
+    ensures { (n : ℕ) → Goes result (does (λ e. rule Op.Colour f.operands n e) f.next) registers.old registers.new }
 {
-    match t {
-        Taken::Refused(n, i) => stop(cells, n, i),
-        Taken::Got(o, next) => {
-            set_colour(cells, low8(o.a));
-            finish(cells, next)
-        }
-    }
+    registers.colour = low8(f.operands.a);
+    registers.counter = f.next;
+    Ok(None)
 }
 
 // a: the pattern's 32 bits.
-pub fn pattern(t: Taken, cells: &mut Cells) -> Upshot
-    requires { CellsFull cells.old }
-    ensures { (n : ℕ) → Goes result (answers t (λ o. rule Op.Pattern o n)) cells.old cells.new }
+pub fn pattern(f: Fetched, registers: &mut Registers) -> Upshot
+    ensures { (n : ℕ) → Goes result (does (λ e. rule Op.Pattern f.operands n e) f.next) registers.old registers.new }
 {
-    match t {
-        Taken::Refused(n, i) => stop(cells, n, i),
-        Taken::Got(o, next) => {
-            set_pattern(cells, o.a);
-            finish(cells, next)
-        }
-    }
+    registers.pattern = f.operands.a;
+    registers.counter = f.next;
+    Ok(None)
 }
 
 // a, b: x and y.
-pub fn move_to(t: Taken, cells: &mut Cells, points: &mut Points) -> Upshot
-    requires { CellsFull cells.old × PointsFull points.old }
-    ensures { (n : ℕ) → Moves result (answers t (λ o. rule Op.MoveTo o n))
-        cells.old cells.new points.old points.new }
+pub fn move_to(f: Fetched, registers: &mut Registers) -> Upshot
+    ensures { (n : ℕ) → Goes result (does (λ e. rule Op.MoveTo f.operands n e) f.next) registers.old registers.new }
 {
-    match t {
-        Taken::Refused(n, i) => stop(cells, n, i),
-        Taken::Got(o, next) => {
-            let Point::At(p) = point_of(o.a, o.b) else {
-                return refuse(cells, 25);
-            };
-            set_position(points, p);
-            finish(cells, next)
-        }
-    }
+    let o = f.operands;
+    let outside = registers.refused(Refusal::Outside);
+    registers.position = point_of(o.a, o.b).ok_or(outside)?;
+    registers.counter = f.next;
+    Ok(None)
 }
 
 // a, b: dx and dy.
-pub fn move_by(t: Taken, cells: &mut Cells, points: &mut Points) -> Upshot
-    requires { CellsFull cells.old × PointsFull points.old }
-    ensures { (n : ℕ) → Moves result (answers t (λ o. rule Op.MoveBy o n))
-        cells.old cells.new points.old points.new }
+pub fn move_by(f: Fetched, registers: &mut Registers) -> Upshot
+    ensures { (n : ℕ) → Goes result (does (λ e. rule Op.MoveBy f.operands n e) f.next) registers.old registers.new }
 {
-    match t {
-        Taken::Refused(n, i) => stop(cells, n, i),
-        Taken::Got(o, next) => {
-            let here = position(&*points);
-            let Point::At(p) = point_by(here, o.a, o.b) else {
-                return refuse(cells, 25);
-            };
-            set_position(points, p);
-            finish(cells, next)
-        }
-    }
+    let o = f.operands;
+    let outside = registers.refused(Refusal::Outside);
+    registers.position = point_by(registers.position, o.a, o.b).ok_or(outside)?;
+    registers.counter = f.next;
+    Ok(None)
 }
 
 // a, b: x and y.
-pub fn origin(t: Taken, cells: &mut Cells, points: &mut Points) -> Upshot
-    requires { CellsFull cells.old × PointsFull points.old }
-    ensures { (n : ℕ) → Moves result (answers t (λ o. rule Op.Origin o n))
-        cells.old cells.new points.old points.new }
+pub fn origin(f: Fetched, registers: &mut Registers) -> Upshot
+    ensures { (n : ℕ) → Goes result (does (λ e. rule Op.Origin f.operands n e) f.next) registers.old registers.new }
 {
-    match t {
-        Taken::Refused(n, i) => stop(cells, n, i),
-        Taken::Got(o, next) => {
-            let Point::At(p) = point_of(o.a, o.b) else {
-                return refuse(cells, 25);
-            };
-            set_origin(points, p);
-            finish(cells, next)
-        }
-    }
+    let o = f.operands;
+    let outside = registers.refused(Refusal::Outside);
+    registers.origin = point_of(o.a, o.b).ok_or(outside)?;
+    registers.counter = f.next;
+    Ok(None)
 }

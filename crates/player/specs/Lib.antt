@@ -1,5 +1,5 @@
 -- What any player is: Painting to Run. Demand 3 for any two sides: Pane to Promised. Who obeys its laws: Drawing to Keeps.
--- Demand 1 for a refused opcode: Stands. A budget in slices: Slices, InTurns. A player's door and loop: Door, Shown. T-08, who painted a dot: Writing, Tinted. Small players: Toy, Stray.
+-- Demand 1 for a refused opcode: Stands. A budget in slices: Slices, InTurns. A player's door and loop: Door, Refusals, Shown. T-08, who painted a dot: Writing, Tinted. Small players: Toy, Stray.
 pub mod Painting
 pub mod Player
 pub mod Reply
@@ -16,6 +16,7 @@ pub mod Stands
 pub mod Slices
 pub mod InTurns
 pub mod Door
+pub mod Refusals
 pub mod Shown
 pub mod Writing
 pub mod Tinted

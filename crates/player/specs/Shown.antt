@@ -1,14 +1,13 @@
 -- What is seen of an opcode from outside, for which no screen is needed; what of it a loop paints; and what a state answers.
-use Rattle.std.specs.Prelude.{ℕ, false, ◌&&◌, List}
+use Rattle.std.specs.Prelude.{ℕ, false, ◌&&◌, List, Option, Some, None, Result, Ok, Err}
 use Rattle.raster.specs.declared.frame.Bounds.{Bounds}
 use Rattle.raster.specs.declared.frame.Frame.{Frame}
 use Rattle.raster.specs.Shapes.{Shape}
 use Rattle.raster.specs.Frame.{drawable}
 use Rattle.raster.specs.Paint.{recolour, column_of, row_of}
-use Rattle.brush.specs.Brush.{shape_of, colour_of}
+use Rattle.brush.specs.declared.Brush.{Brush}
+use Rattle.brush.specs.Brush.{shape_of}
 use Rattle.player.specs.declared.Verdict.{Verdict}
-use Rattle.player.specs.declared.Upshot.{Upshot}
-use Rattle.player.specs.declared.Upshot.TheVariants.{Quiet, Brushed, Refused}
 use Rattle.player.specs.declared.State.{State}
 use Rattle.player.specs.declared.State.TheVariants.{Running, Ended, Stopped}
 use Rattle.player.specs.Painting.{Painting, placed}
@@ -42,14 +41,18 @@ shown stop (done e' p) e = went e' (marks p)
 shown stop (refused v) e = halted (stop v e)
 
 -- what a brush paints within a frame
-abbrev pub brushed : Frame → List ℕ → Painting
-brushed f p = placed f (shape_of p) (colour_of p)
+abbrev pub brushed : Frame → Brush → Painting
+brushed f p = placed f (shape_of p.figure) p.colour
 
--- what a program hands back, with the environment and the brush that it leaves: nothing is painted, or what the brush holds, or it was refused
-abbrev pub seen : {E : Type 0} → (E → Frame) → Upshot → E → List ℕ → Shown E
-seen frame Quiet e p = went e (unmarked (frame e).bounds)
-seen frame Brushed e p = went e (marks (brushed (frame e) p))
-seen frame Refused e p = halted e
+-- what a program hands back of an opcode
+abbrev pub Upshot : Type 0
+Upshot = Result (Option Brush) Verdict
+
+-- with the environment that it leaves: nothing is painted, or what the brush holds, or it was refused, which stops the environment
+abbrev pub seen : {E : Type 0} → (E → Frame) → (Verdict → E → E) → Upshot → E → Shown E
+seen frame stop (Ok None) e = went e (unmarked (frame e).bounds)
+seen frame stop (Ok (Some p)) e = went e (marks (brushed (frame e) p))
+seen frame stop (Err v) e = halted (stop v e)
 
 -- ---- what a state answers; of one that still runs, that the budget is used up
 abbrev pub verdict_of : State → Verdict

@@ -1,9 +1,12 @@
 // What every player shares.
 #![tactic(auto)]
 
+pub mod refusal; // why a call or an opcode is refused
+
 ghost use Rattle.std.specs.Prelude.{◌≡◌};
 ghost use Rattle.player.specs.Player.{verdict};
 
+use brush::Brush;
 use numbers::place::WordIndex;
 
 // What a call comes back with, and what a refusal says: a number of document 01's table and, with 20 to 29, the index of the
@@ -24,14 +27,8 @@ pub fn carrying_0(number: u8) -> Verdict
     }
 }
 
-// What an opcode came to: it is carried out and paints nothing, or what the brush holds; or it is refused, and the state has
-// the refusal.
-#[derive(Clone, Copy)]
-pub enum Upshot {
-    Quiet,
-    Brushed,
-    Refused,
-}
+// What an opcode came to: it is carried out and paints nothing, or with a brush; or it is refused.
+pub type Upshot = Result<Option<Brush>, Verdict>;
 
 // The state that an environment holds: stopped with the refusal.
 #[derive(Clone, Copy)]

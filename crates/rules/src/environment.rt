@@ -1,9 +1,11 @@
 // Document 01, 'What a call is given': the environment. It crosses to C, so it is #[repr(C)] and holds no enum.
 ghost use Rattle.std.specs.Prelude.{◌≡◌};
 ghost use Rattle.player.specs.Player.{fault};
+ghost use Rattle.player.specs.Refusals.{number_of};
 ghost use Rattle.rules.specs.Environment.{carries0, state_of};
 
 use numbers::place::WordIndex;
+use player::refusal::Refusal;
 use player::{State, Verdict};
 use raster::dots::Dot;
 use raster::frame::{Bounds, Window};
@@ -26,6 +28,26 @@ pub struct Registers {
     pub place: WordIndex,
     pub colour: u8,
     pub state: u8,
+}
+
+impl Registers {
+    // The opcode at the counter is refused, where it begins.
+    pub fn refused(&self, refusal: Refusal) -> Verdict
+        ensures { result ≡ fault (number_of refusal) self.now.counter }
+    {
+        Verdict {
+            number: refusal.number(),
+            place: self.counter,
+        }
+    }
+
+    // A refusal stops the environment, and nothing else of it is changed.
+    pub fn stop(&mut self, refusal: Verdict)
+        ensures { self.new ≡ record self.old { state = refusal.number; place = refusal.place } }
+    {
+        self.state = refusal.number;
+        self.place = refusal.place;
+    }
 }
 
 // Document 02, T-09, an open repeat: where its block begins, behind the RPT, and how many passes are left, the one that runs among them.

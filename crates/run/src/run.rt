@@ -1,12 +1,15 @@
 // The whole call: refused at the door with nothing changed, or run.
 ghost use Rattle.std.specs.Prelude.{◌≡◌};
+ghost use Rattle.player.specs.Hosted.{answered};
 ghost use Rattle.player.specs.Shown.{verdict_of};
-ghost use Rattle.rules.specs.Door.{Promise};
+ghost use Rattle.rules.specs.Environment.{held};
+ghost use Rattle.rules.specs.Door.{said, Promise};
+ghost use Rattle.run.specs.Inks.{machine};
 
 use crate::door::door;
+use crate::ink::{Ink, Own};
 use crate::turns::turns;
-use lent::registers::{cells_of, gathered, points_of};
-use lent::stack::{nesting, numbers_of, repeats_of, returns_of};
+use lent::Stack;
 use numbers::place::WordIndex;
 use player::{State, Verdict, carrying_0};
 use rules::answer::Answer;
@@ -24,7 +27,7 @@ pub fn verdict_of(s: State) -> Verdict
 }
 
 // Refused at the door: all is as it was.
-pub fn refused(number: u8, env: Env) -> Answer
+fn refused(number: u8, env: Env) -> Answer
     ensures { result ≡ record { number = number; place = record { 0 = 0 }; env = env; steps = 0 } }
 {
     Answer {
@@ -35,45 +38,51 @@ pub fn refused(number: u8, env: Env) -> Answer
     }
 }
 
-pub fn run(list: &[u16], screen: &mut [u8], env: Env, budget: u32) -> Answer
-    ensures { Promise list.now screen.old env budget result screen.new }
+// In the colours of an ink.
+pub fn run_in<I: Ink>(list: &[u16], screen: &mut [u8], env: Env, budget: u32, ink: &I) -> Answer
+    ensures { said result screen.new
+        ≡ answered (machine (I.hue ink.now)) (record { list = list.now; budget = budget }) (held env) screen.old }
 {
-    let b = env.bounds;
-    let r = env.registers;
-    let mut vars = env.variables;
-    let returns = env.stack;
-    let repeats = env.repeats;
-    let mut stack = numbers_of(returns, env.nesting, repeats);
-    let d = door(list.len(), screen.len(), b, r, &stack, budget);
-    if d != 0 {
-        return refused(d, env);
+    let bounds = env.bounds;
+    let mut registers = env.registers;
+    let mut variables = env.variables;
+    let mut stack = Stack {
+        returns: env.stack,
+        nesting: env.nesting,
+        repeats: env.repeats,
+    };
+    if let Err(unfit) = door(list.len(), screen.len(), bounds, registers, &stack, budget) {
+        return refused(unfit.number(), env);
     }
-    let mut cells = cells_of(r);
-    let mut points = points_of(r);
     let steps = turns(
         list,
-        b,
-        &mut cells,
-        &mut points,
-        &mut vars,
+        bounds,
+        &mut registers,
+        &mut variables,
         &mut stack,
         screen,
+        ink,
         budget,
     );
-    let registers = gathered(&cells, &points);
-    let v = verdict_of(state_of(registers));
-    let place = v.place;
+    let verdict = verdict_of(state_of(registers));
     Answer {
-        number: v.number,
-        place,
+        number: verdict.number,
+        place: verdict.place,
         env: Env {
-            bounds: b,
+            bounds,
             registers,
-            variables: vars,
-            stack: returns_of(stack),
-            nesting: nesting(&stack),
-            repeats: repeats_of(stack),
+            variables,
+            stack: stack.returns,
+            nesting: stack.nesting,
+            repeats: stack.repeats,
         },
         steps,
     }
+}
+
+// In the colours by the rules.
+pub fn run(list: &[u16], screen: &mut [u8], env: Env, budget: u32) -> Answer
+    ensures { Promise list.now screen.old env budget result screen.new }
+{
+    run_in(list, screen, env, budget, &Own)
 }

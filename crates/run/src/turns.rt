@@ -1,49 +1,62 @@
-// One opcode after the other: the state comes first, then the budget, then the opcode, and what it left to be painted.
+// One opcode after the other: the state comes first, then the budget, then the opcode, and what it paints.
 ghost use Rattle.std.specs.Prelude.{◌≡◌};
 ghost use Rattle.player.specs.Run.{runs};
 ghost use Rattle.rules.specs.Step.{afgis};
 ghost use Rattle.lent.specs.Lent.{look};
+ghost use Rattle.run.specs.Inks.{inked};
 ghost use Rattle.run.specs.Turns.{Ready, left};
 
+use crate::ink::Ink;
 use brush::{Brush, paint};
-use lent::registers::{Cells, Points, frame, state};
-use lent::stack::Stack;
-use player::Upshot;
+use lent::{Stack, frame};
+use numbers::place::WordIndex;
 use raster::frame::Bounds;
+use rules::environment::Registers;
 use step::step::step;
 
+// The brush of the opcode at an index, dipped into the ink.
+fn dipped<I: Ink>(brush: Brush, ink: &I, opcode: WordIndex) -> Brush
+    ensures figure { result.figure ≡ brush.figure }
+    ensures colour { result.colour ≡ I.hue ink.now opcode brush.colour }
+{
+    Brush {
+        figure: brush.figure,
+        colour: ink.colour(opcode, brush.colour),
+    }
+}
+
 // How many were carried out. The state is asked as the run begins and behind each opcode, so it runs wherever the loop is.
-pub fn turns(
+pub fn turns<I: Ink>(
     words: &[u16],
     b: Bounds,
-    cells: &mut Cells,
-    points: &mut Points,
+    registers: &mut Registers,
     vars: &mut [u32; 64],
     stack: &mut Stack,
     screen: &mut [u8],
+    ink: &I,
     budget: u32,
 ) -> u32
-    requires { Ready words.now b cells.old points.old vars.old stack.old screen.old }
-    ensures { left (look b cells.new points.new vars.new stack.new) screen.new result
-        ≡ runs (afgis words.now) budget
-        (look b cells.old points.old vars.old stack.old) screen.old 0 }
+    requires { Ready words.now b registers.old vars.old stack.old screen.old }
+    ensures { left (look b registers.new vars.new stack.new) screen.new result
+        ≡ runs (inked (I.hue ink.now) (afgis words.now)) budget
+        (look b registers.old vars.old stack.old) screen.old 0 }
 {
-    if state(&*cells) != 0 {
+    if registers.state != 0 {
         return 0;
     }
-    let mut steps: u32 = 0;
-    while steps < budget {
-        let mut brush: Brush = [0; 7];
-        let upshot = step(words, cells, points, vars, stack, &mut brush);
-        match upshot {
-            Upshot::Quiet => {}
-            Upshot::Brushed => paint(screen, frame(b, &*cells, &*points), &brush),
-            Upshot::Refused => return steps,
+    for steps in 0..budget {
+        let opcode = registers.counter;
+        match step(words, registers, vars, stack) {
+            Ok(None) => {}
+            Ok(Some(brush)) => paint(screen, frame(b, &*registers), dipped(brush, ink, opcode)),
+            Err(refusal) => {
+                registers.stop(refusal);
+                return steps;
+            }
         }
-        steps += 1;
-        if state(&*cells) != 0 {
-            return steps;
+        if registers.state != 0 {
+            return steps + 1;
         }
     }
-    steps
+    budget
 }

@@ -6,36 +6,36 @@ ghost use Rattle.step.specs.Steps.{shows};
 
 use act::{flow, repeats};
 use fetch::source::{long, plain, variables, word_long};
-use lent::registers::Cells;
-use lent::stack::Stack;
+use lent::Stack;
 use numbers::place::WordIndex;
 use player::Upshot;
+use rules::environment::Registers;
 use rules::opcode::FlowForm;
 
 pub fn step(
     form: FlowForm,
     words: &[u16],
     pc: WordIndex,
-    cells: &mut Cells,
+    registers: &mut Registers,
     vars: &[u32; 64],
     stack: &mut Stack,
 ) -> Upshot
-    requires { Reaches words.now pc.0 0 × Stacked cells.old stack.old }
+    requires { Reaches words.now pc.0 0 × Stacked registers.old stack.old }
     ensures { Stacks result (shows (Meaning.flow form) words.now pc.0 vars.now)
-        cells.old cells.new stack.old stack.new }
+        registers.old registers.new stack.old stack.new }
 {
     let count = words.len() as u32;
     match form {
-        FlowForm::Noop => flow::noop(plain(words, pc, 0), cells),
-        FlowForm::Eodl => flow::end(plain(words, pc, 0), cells),
-        FlowForm::Cal => flow::call(long(words, pc), count, cells, stack),
-        FlowForm::Calv => flow::call(variables(words, pc, vars, 1), count, cells, stack),
-        FlowForm::Erpt => repeats::end_repeat(plain(words, pc, 0), cells, stack),
-        FlowForm::Rpt => repeats::repeat(plain(words, pc, 1), cells, stack),
-        FlowForm::Rtrn => flow::come_back(plain(words, pc, 0), cells, &*stack),
-        FlowForm::Jumpa => flow::jump(word_long(words, pc), count, cells),
-        FlowForm::Jumpr => flow::jump_by(plain(words, pc, 2), count, cells),
-        FlowForm::Calr => flow::call_by(plain(words, pc, 1), count, cells, stack),
-        FlowForm::Calrv => flow::call_by(variables(words, pc, vars, 1), count, cells, stack),
+        FlowForm::Noop => flow::noop(plain(words, pc, 0)?, registers),
+        FlowForm::Eodl => flow::end(plain(words, pc, 0)?, registers),
+        FlowForm::Cal => flow::call(long(words, pc)?, count, registers, stack),
+        FlowForm::Calv => flow::call(variables(words, pc, vars, 1)?, count, registers, stack),
+        FlowForm::Erpt => repeats::end_repeat(plain(words, pc, 0)?, registers, stack),
+        FlowForm::Rpt => repeats::repeat(plain(words, pc, 1)?, registers, stack),
+        FlowForm::Rtrn => flow::come_back(plain(words, pc, 0)?, registers, &*stack),
+        FlowForm::Jumpa => flow::jump(word_long(words, pc)?, count, registers),
+        FlowForm::Jumpr => flow::jump_by(plain(words, pc, 2)?, count, registers),
+        FlowForm::Calr => flow::call_by(plain(words, pc, 1)?, count, registers, stack),
+        FlowForm::Calrv => flow::call_by(variables(words, pc, vars, 1)?, count, registers, stack),
     }
 }

@@ -1,59 +1,37 @@
 // A list is run with every opcode painting in a tint, so that a picture shows who painted what.
 #![tactic(auto)]
 
-mod tint; // the tint of an opcode, and painting in it
-mod turns; // as many as the budget allows
+ghost use Rattle.std.specs.Prelude.{◌≡◌};
+ghost use Rattle.tint.specs.Tint.{tint, Promise};
 
-ghost use Rattle.tint.specs.Tint.{Promise};
-
-use crate::turns::tinted_turns;
-use lent::registers::{cells_of, gathered, points_of};
-use lent::stack::{nesting, numbers_of, repeats_of, returns_of};
+use numbers::place::WordIndex;
 use rules::answer::Answer;
-use rules::environment::{Env, state_of};
-use run::door::door;
-use run::run::{refused, verdict_of};
+use rules::environment::Env;
+use run::ink::Ink;
+use run::run::run_in;
+
+// Each opcode has a tint, told by its index.
+#[derive(Clone, Copy)]
+pub struct Tint;
+
+impl Ink for Tint {
+    ghost hue: { λ ink opcode own. tint opcode };
+
+    fn colour(&self, opcode: WordIndex, own: u8) -> u8 {
+        tint_of(opcode)
+    }
+}
+
+// Of the opcode at this index. 64 bits hold the product, whatever the index.
+pub fn tint_of(i: WordIndex) -> u8
+    ensures { result ≡ tint i }
+{
+    (16 + i.0 as u64 * 149 % 240) as u8
+}
 
 // As `run::run::run`, with other colours on the screen.
 pub fn tinted(list: &[u16], screen: &mut [u8], env: Env, budget: u32) -> Answer
     ensures { Promise list.now screen.old env budget result screen.new }
 {
-    let b = env.bounds;
-    let r = env.registers;
-    let mut vars = env.variables;
-    let returns = env.stack;
-    let repeats = env.repeats;
-    let mut stack = numbers_of(returns, env.nesting, repeats);
-    let d = door(list.len(), screen.len(), b, r, &stack, budget);
-    if d != 0 {
-        return refused(d, env);
-    }
-    let mut cells = cells_of(r);
-    let mut points = points_of(r);
-    let steps = tinted_turns(
-        list,
-        b,
-        &mut cells,
-        &mut points,
-        &mut vars,
-        &mut stack,
-        screen,
-        budget,
-    );
-    let registers = gathered(&cells, &points);
-    let v = verdict_of(state_of(registers));
-    let place = v.place;
-    Answer {
-        number: v.number,
-        place,
-        env: Env {
-            bounds: b,
-            registers,
-            variables: vars,
-            stack: returns_of(stack),
-            nesting: nesting(&stack),
-            repeats: repeats_of(stack),
-        },
-        steps,
-    }
+    run_in(list, screen, env, budget, &Tint)
 }

@@ -4,16 +4,15 @@ use Rattle.std.specs.Int.Signed.{le_z}
 use Rattle.raster.specs.declared.dots.Dot.{Dot}
 use Rattle.raster.specs.declared.frame.Bounds.{Bounds}
 use Rattle.rules.specs.Door.{size_fits, fits}
-use Rattle.lent.specs.Lent.{look, CellsFull, PointsFull, StackFull}
+use Rattle.rules.specs.declared.environment.Registers.{Registers}
+use Rattle.lent.specs.declared.Stack.{Stack}
+use Rattle.lent.specs.Lent.{look}
 
 -- what the door establishes, and every opcode leaves
-pub record Ready (w : List ℕ) (b : Bounds) (cs : List ℕ) (ps : List ℤ) (vs st : List ℕ) : Type 0 where
+pub record Ready (w : List ℕ) (b : Bounds) (r : Registers) (vs : List ℕ) (st : Stack) : Type 0 where
   pub few : length w ≤ 65536
-  pub cells : CellsFull cs
-  pub points : PointsFull ps
   pub size : size_fits b ≡ true
-  pub ranges : fits (look b cs ps vs st) ≡ true
-  pub stack : StackFull st
+  pub ranges : fits (look b r vs st) ≡ true
 
 -- the dot in a column of a row
 abbrev pub pixel : ℕ → ℕ → Dot

@@ -2,7 +2,6 @@
 // contains the dot.
 ghost use Rattle.std.specs.Prelude.{◌≡◌, cond, ◌<◌};
 ghost use Rattle.raster.specs.Frame.{Sane};
-ghost use Rattle.brush.specs.Brush.{Near, colour_of};
 ghost use Rattle.player.specs.Shown.{brushed};
 ghost use Rattle.player.specs.Writing.{writes};
 ghost use Rattle.lent.specs.Lent.{look};
@@ -12,31 +11,30 @@ ghost use Rattle.who.specs.Following.{Ready, pixel};
 use crate::{Writer, saying};
 use brush::Brush;
 use contains::contains;
-use lent::registers::{Cells, Points, counter, frame, state};
-use lent::stack::Stack;
+use lent::{Stack, frame};
 use numbers::place::WordIndex;
-use player::Upshot;
 use raster::frame::{Bounds, Frame};
+use rules::environment::Registers;
 use step::step::step;
 
 // Who is named behind an opcode that paints: this step where it wrote the dot, else whoever was named before.
 fn named(
     before: Writer,
     f: Frame,
-    brush: &Brush,
+    brush: Brush,
     column: u32,
     row: u32,
     step: u32,
     opcode: WordIndex,
 ) -> Writer
-    requires { Sane f × (column < f.bounds.width) × (row < f.bounds.height) × Near brush.now }
-    ensures { result ≡ cond (writes (brushed f brush.now) (pixel column row))
-        (record { number = 0; colour = colour_of brush.now; step = step; opcode = opcode }) before }
+    requires { Sane f × (column < f.bounds.width) × (row < f.bounds.height) }
+    ensures { result ≡ cond (writes (brushed f brush) (pixel column row))
+        (record { number = 0; colour = brush.colour; step = step; opcode = opcode }) before }
 {
     if contains(f, brush, column, row) {
         Writer {
             number: 0,
-            colour: (brush[1] % 256) as u8,
+            colour: brush.colour,
             step,
             opcode,
         }
@@ -49,38 +47,33 @@ fn named(
 pub fn last_writer(
     words: &[u16],
     b: Bounds,
-    cells: &mut Cells,
-    points: &mut Points,
+    registers: &mut Registers,
     vars: &mut [u32; 64],
     stack: &mut Stack,
     budget: u32,
     column: u32,
     row: u32,
 ) -> Writer
-    requires ready { Ready words.now b cells.old points.old vars.old stack.old }
+    requires ready { Ready words.now b registers.old vars.old stack.old }
     requires column_lt_width { (column < b.width) × (row < b.height) }
     ensures { result ≡ found words.now
-        (look b cells.old points.old vars.old stack.old) budget (pixel column row) }
+        (look b registers.old vars.old stack.old) budget (pixel column row) }
 {
     let mut writer = saying(0);
-    if state(&*cells) != 0 {
+    if registers.state != 0 {
         return writer;
     }
-    let mut steps: u32 = 0;
-    while steps < budget {
-        let opcode = counter(&*cells);
-        let mut brush: Brush = [0; 7];
-        let upshot = step(words, cells, points, vars, stack, &mut brush);
-        match upshot {
-            Upshot::Quiet => {}
-            Upshot::Brushed => {
-                let f = frame(b, &*cells, &*points);
-                writer = named(writer, f, &brush, column, row, steps + 1, opcode);
+    for steps in 0..budget {
+        let opcode = registers.counter;
+        match step(words, registers, vars, stack) {
+            Ok(None) => {}
+            Ok(Some(brush)) => {
+                let f = frame(b, &*registers);
+                writer = named(writer, f, brush, column, row, steps + 1, opcode);
             }
-            Upshot::Refused => return writer,
+            Err(_) => return writer,
         }
-        steps += 1;
-        if state(&*cells) != 0 {
+        if registers.state != 0 {
             return writer;
         }
     }

@@ -9,9 +9,9 @@ ghost use Rattle.who.specs.Who.{saying as sayingOf, Promise};
 
 use crate::coordinate::unsigned;
 use crate::following::last_writer;
-use lent::registers::{cells_of, points_of};
-use lent::stack::numbers_of;
+use lent::Stack;
 use numbers::place::WordIndex;
+use player::refusal::Refusal;
 use raster::dots::Dot;
 use raster::frame::Bounds;
 use rules::environment::Env;
@@ -52,30 +52,25 @@ pub fn who(list: &[u16], env: Env, budget: u32, dot: Dot) -> Writer
     ensures { Promise list.now env budget dot result }
 {
     let b = env.bounds;
-    let r = env.registers;
+    let mut registers = env.registers;
     let mut vars = env.variables;
-    let returns = env.stack;
-    let repeats = env.repeats;
-    let mut stack = numbers_of(returns, env.nesting, repeats);
-    let d = door(list.len(), area(b), b, r, &stack, budget);
-    if d != 0 {
-        return saying(d);
+    let mut stack = Stack {
+        returns: env.stack,
+        nesting: env.nesting,
+        repeats: env.repeats,
+    };
+    if let Err(unfit) = door(list.len(), area(b), b, registers, &stack, budget) {
+        return saying(unfit.number());
     }
     let column = unsigned(dot.x);
     let row = unsigned(dot.y);
-    if b.width <= column {
-        return saying(25);
+    if b.width <= column || b.height <= row {
+        return saying(Refusal::Outside.number());
     }
-    if b.height <= row {
-        return saying(25);
-    }
-    let mut cells = cells_of(r);
-    let mut points = points_of(r);
     last_writer(
         list,
         b,
-        &mut cells,
-        &mut points,
+        &mut registers,
         &mut vars,
         &mut stack,
         budget,
