@@ -8,7 +8,7 @@ use numbers::place::WordIndex;
 
 // What a call comes back with, and what a refusal says: a number of document 01's table and, with 20 to 29, the index of the
 // word at fault. All other numbers carry 0.
-#[derive(Clone, Copy)]
+#[derive(Clone, Copy, Debug, PartialEq, Eq)]
 pub struct Verdict {
     pub number: u8,
     pub place: WordIndex,
@@ -26,7 +26,7 @@ pub fn carrying_0(number: u8) -> Verdict
 
 // What an opcode came to: it is carried out and paints nothing, or what the brush holds; or it is refused, and the state has
 // the refusal.
-#[derive(Clone, Copy)]
+#[derive(Clone, Copy, Debug, PartialEq, Eq)]
 pub enum Upshot {
     Quiet,
     Brushed,
@@ -34,7 +34,7 @@ pub enum Upshot {
 }
 
 // The state that an environment holds: stopped with the refusal.
-#[derive(Clone, Copy)]
+#[derive(Clone, Copy, Debug, PartialEq, Eq)]
 pub enum State {
     Running,
     Ended,
