@@ -29,22 +29,22 @@ Words d = Word d.x × Word d.y
 pub words : (d : Dot) → near_dot d ≡ true → Words d
 words d h = let p = both (in_word d.x) (in_word d.y) h in (word d.x p.0, word d.y p.1)
 
+ends : (l : Line) → near_line l ≡ true → Words l.from × Words l.to
+ends l h = let p = both (near_dot l.from) (near_dot l.to) h in (words l.from p.0, words l.to p.1)
+
+round : (k : Circle) → near_circle k ≡ true → Words k.centre × (is_radius k.radius ≡ true)
+round k h = let p = both (near_dot k.centre) (is_radius k.radius) h in (words k.centre p.0, p.1)
+
 -- ---- by what the figure is
 module _ {g : Figure} (near : is_near g ≡ true) where
   pub of-dot : {d : Dot} → g ≡ Figures.Dot d → Words d
   of-dot {d} e = words d (rw e at near)
-
-  ends : (l : Line) → near_line l ≡ true → Words l.from × Words l.to
-  ends l h = let p = both (near_dot l.from) (near_dot l.to) h in (words l.from p.0, words l.to p.1)
 
   pub of-line : {l : Line} → g ≡ Figures.Line l → Words l.from × Words l.to
   of-line {l} e = ends l (rw e at near)
 
   pub of-dashed : {l : Line} {pattern : ℕ} → g ≡ Figures.Dashed l pattern → Words l.from × Words l.to
   of-dashed {l} e = ends l (rw e at near)
-
-  round : (k : Circle) → near_circle k ≡ true → Words k.centre × (is_radius k.radius ≡ true)
-  round k h = let p = both (near_dot k.centre) (is_radius k.radius) h in (words k.centre p.0, p.1)
 
   pub of-disc : {k : Circle} → g ≡ Figures.Disc k → Words k.centre × (is_radius k.radius ≡ true)
   of-disc {k} e = round k (rw e at near)
@@ -55,7 +55,7 @@ module _ {g : Figure} (near : is_near g ≡ true) where
 -- ---- a radius is a natural number
 pub radius-small : (z : ℤ) → is_radius z ≡ true → nat_abs z < 32768
 unfolding is_radius
-radius-small (pos n) h = let l = leb-true n 32767 h in omega (arith, l)
+radius-small (pos n) h = let l = leb-true n 32767 (both _ _ h).1 in omega (arith, l)
 radius-small (negsuc n) h = absurd (true≢false (sym h))
 
 pub radius-natural : (z : ℤ) → is_radius z ≡ true → pos (nat_abs z) ≡ z

@@ -1,5 +1,5 @@
 -- Values and bits: a value goes by its sign, and sums, differences and products may be taken of the bits.
-use Rattle.std.proofs.Common.{◌≡◌, ℕ, zero, suc, ◌+◌, ◌-◌, ◌*◌, ◌%◌, ◌^◌, ◌<◌, ◌≤◌, Bool, true, false, ltb, ℤ, pos, negsuc, ◌+ℤ◌, ◌-ℤ◌, ◌*ℤ◌, neg_ℤ, sym, refl, ap, ◌∙◌, mul_comm, arith, ltb-false, ltb-true, le-ltb, lt-ltb}
+use Rattle.std.proofs.Common.{◌≡◌, ℕ, zero, suc, ◌+◌, ◌-◌, ◌*◌, ◌%◌, ◌^◌, ◌<◌, ◌≤◌, ltb, ℤ, pos, negsuc, ◌+ℤ◌, ◌-ℤ◌, ◌*ℤ◌, neg_ℤ, sym, refl, ap, ◌∙◌, mul_comm, arith, ltb-false, ltb-true, le-ltb, lt-ltb}
 use lib.IntN.{sub_ℕ}
 use lib.Signed.{mag}
 use Rattle.numbers.specs.Number.{signed32, signed16, low32, sum32, difference32, product32}
@@ -41,14 +41,6 @@ signed_low (pos n) h = signed-pos (n % 2 ^ 32) (omega arith) ∙ ap pos (omega a
 signed_low (negsuc n) h = signed-neg (2 ^ 32 - 1 - n % 2 ^ 32) (omega arith) (omega arith) ∙ ap negsuc (omega arith)
 
 -- ---- a word
-
-pub word-pos : (n : ℕ) → n < 2 ^ 15 → signed16 n ≡ pos n
-unfolding signed16
-word-pos n h = rw (lt-ltb n (2 ^ 15) h)
-
-pub word-neg : (n : ℕ) → 2 ^ 15 ≤ n → n < 2 ^ 16 → signed16 n ≡ negsuc (2 ^ 16 - suc n)
-unfolding signed16
-word-neg n h k = rw (le-ltb n (2 ^ 15) h, lt-ltb n (2 ^ 16) k)
 
 pub word-mag : (n : ℕ) → n < 2 ^ 16 → mag (signed16 n) < 2 ^ 15
 unfolding signed16
@@ -109,11 +101,3 @@ module _ (a b : ℕ) (ha : a < 2 ^ 32) (hb : b < 2 ^ 32) where
   pub product-bits : product32 a b ≡ (a * b) % 2 ^ 32
   unfolding product32
   product-bits = low-mul (signed32 a) (signed32 b) ∙ rw (low_signed a ha, low_signed b hb)
-
-pub extended : (n : ℕ) → n < 2 ^ 16 → low32 (signed16 n) ≡ ((n + 0x8000) % 0x1_0000 + 0xffff_8000) % 0x1_0000_0000
-unfolding low32
-extended n k = go (ltb n (2 ^ 15)) refl
-  where
-    go : (t : Bool) → ltb n (2 ^ 15) ≡ t → low32 (signed16 n) ≡ ((n + 0x8000) % 0x1_0000 + 0xffff_8000) % 0x1_0000_0000
-    go true e = let h = ltb-true n (2 ^ 15) e in rw (word-pos n h) (omega (arith, h))
-    go false e = let h = ltb-false n (2 ^ 15) e in rw (word-neg n h k) (omega (arith, h))

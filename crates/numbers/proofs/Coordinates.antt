@@ -1,12 +1,11 @@
 -- Coordinates: what lies within a signed word, and what an answer tells.
-use Rattle.std.proofs.Common.{◌≡◌, ℕ, ◌^◌, ◌<◌, true, false, ltb, leb, ℤ, pos, negsuc, sym, refl, ◌∙◌, arith, to_z-of_z, w32, to_z, of_z, ltb-true, lt-ltb, le-leb}
+use Rattle.std.proofs.Common.{◌≡◌, ℕ, ◌^◌, ◌<◌, true, false, ltb, leb, ℤ, pos, negsuc, sym, refl, ◌∙◌, arith, to_z-of_z, w32, to_z, of_z, ltb-true, lt-ltb, le-leb, Some, None, is_some, Bool, cond}
 use mathlib.Core.Bool.{and-true}
 use lib.Dec.{leb-suc-suc}
 use lib.Signed.{mag, le_z}
 use Rattle.numbers.specs.Number.{signed32, signed16, low32}
 use Rattle.numbers.specs.Coordinate.{in_word, coordinate}
-use Rattle.numbers.specs.declared.coordinate.Coordinate.TheVariants.{Within, Outside}
-use Rattle.numbers.proofs.Answers.{told-first, told-second, clash}
+use Rattle.numbers.proofs.Answers.{told-first, clash}
 use Rattle.numbers.proofs.Bits.{word-mag, word_kept}
 
 -- ---- within a signed word
@@ -43,13 +42,17 @@ pub record Told (z x : ℤ) : Type 0 where
   pub value : x ≡ z
   pub held : to_z w32 (of_z w32 x) ≡ z
 
-pub told-within : (z x : ℤ) → coordinate z ≡ Within x → Told z x
+pub told-within : (z x : ℤ) → coordinate z ≡ Some x → Told z x
 unfolding coordinate
 told-within z x e =
     let t = told-first (in_word z) (λ o. clash (cc)) e in
     let q : x ≡ z = cc in
     record { inside = t.0; value = q; held = rw q (to_z-of_z {w = w32} (record { sfits = omega (arith, within-mag z t.0) })) }
 
-pub told-outside : (z : ℤ) → coordinate z ≡ Outside → in_word z ≡ false
+pub some-within : (z : ℤ) → is_some (coordinate z) ≡ in_word z
 unfolding coordinate
-told-outside z e = (told-second (in_word z) (λ w. clash (cc)) e).0
+some-within z = go (in_word z)
+  where
+    go : (t : Bool) → is_some {T = ℤ} (cond t (Some z) None) ≡ t
+    go true = refl
+    go false = refl

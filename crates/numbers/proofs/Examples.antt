@@ -1,10 +1,8 @@
 -- Document 01's cases, as far as they are about numbers and places: the definitions give what the cases say.
-use Rattle.std.proofs.Common.{◌≡◌, true, false, pos, negsuc, ◌+ℤ◌, refl}
+use Rattle.std.proofs.Common.{◌≡◌, true, false, pos, negsuc, ◌+ℤ◌, refl, Some, None}
 use Rattle.numbers.specs.Number.{signed32, signed16, low32, long_of, sum32, quotient32, remainder32}
 use Rattle.numbers.specs.Coordinate.{in_word, coordinate}
 use Rattle.numbers.specs.Place.{above, index_of, word_of}
-use Rattle.numbers.specs.declared.coordinate.Coordinate.TheVariants.{Outside}
-use Rattle.numbers.specs.declared.place.Target.TheVariants.{At, Refused}
 
 -- 2,147,483,647 and 1 more
 case-3 : signed32 (sum32 (long_of 0xffff 0x7fff) 1) ≡ negsuc 2147483647
@@ -12,7 +10,7 @@ unfolding signed32 low32 sum32
 case-3 = refl
 
 -- 65,536 is no coordinate
-case-4 : coordinate (signed32 (long_of 0x0000 0x0001)) ≡ Outside
+case-4 : coordinate (signed32 (long_of 0x0000 0x0001)) ≡ None
 unfolding signed32 in_word coordinate
 case-4 = refl
 
@@ -32,10 +30,10 @@ unfolding above
 case-7 = (refl, refl, refl)
 
 -- the next opcode's index is 2, the offset -2
-case-11 : index_of (pos 2 +ℤ signed32 (low32 (signed16 0xfffe))) 2 ≡ At (record { 0 = 0 })
+case-11 : index_of (pos 2 +ℤ signed32 (low32 (signed16 0xfffe))) 2 ≡ Some (record { 0 = 0 })
 unfolding signed32 signed16 low32 index_of
 case-11 = refl
 
-case-12 : word_of (record { 0 = long_of 0x0008 0x0000 }) 3 ≡ Refused
+case-12 : word_of (record { 0 = long_of 0x0008 0x0000 }) 3 ≡ None
 unfolding word_of
 case-12 = refl

@@ -1,13 +1,12 @@
--- Word indices and bit addresses: what a target tells, that an index and its address give each other back, and how far an offset goes.
-use Rattle.std.proofs.Common.{◌≡◌, ℕ, suc, ◌+◌, ◌-◌, ◌*◌, ◌/◌, ◌%◌, ◌^◌, ◌<◌, ◌≤◌, Bool, true, false, eqb, ltb, ℤ, pos, negsuc, ◌+ℤ◌, sym, refl, ap, arith, ltb-false, ltb-true, le-ltb, lt-ltb, eq-eqb, eqb-true}
-use Rattle.numbers.specs.Number.{signed32}
+-- Word indices and bit addresses: what a target tells, that an index and its address give each other back.
+use Rattle.std.proofs.Common.{◌≡◌, ℕ, ◌+◌, ◌-◌, ◌*◌, ◌/◌, ◌%◌, ◌^◌, ◌<◌, ◌≤◌, Bool, true, false, eqb, ltb, ℤ, pos, negsuc, sym, refl, ap, arith, ltb-false, ltb-true, le-ltb, lt-ltb, eq-eqb, eqb-true, Some, None, w32}
+use Rattle.std.specs.Int.{FitsUnsigned}
+use Rattle.std.proofs.lemmas.Int.{ints}
 use Rattle.numbers.specs.Place.{above, index_of, word_of}
 use Rattle.numbers.specs.declared.place.VarNo.{VarNo}
 use Rattle.numbers.specs.declared.place.WordIndex.{WordIndex}
 use Rattle.numbers.specs.declared.place.BitAddress.{BitAddress}
-use Rattle.numbers.specs.declared.place.Target.TheVariants.{At}
 use Rattle.numbers.proofs.Answers.{told-first, clash}
-use Rattle.numbers.proofs.Bits.{signed-pos, signed-neg}
 
 -- ---- variables from v on
 
@@ -31,7 +30,7 @@ module _ (v : VarNo) (n : ℕ) where
 
 -- ---- a target: below the length, a multiple of 16
 
-pub at-index : (z : ℤ) (words : ℕ) (w : WordIndex) → index_of z words ≡ At w → (z ≡ pos w.0) × (w.0 < words)
+pub at-index : (z : ℤ) (words : ℕ) (w : WordIndex) → index_of z words ≡ Some w → (z ≡ pos w.0) × (w.0 < words)
 unfolding index_of
 at-index (pos n) words w e =
     let t = told-first (ltb n words) (λ r. clash (cc)) e in
@@ -40,7 +39,7 @@ at-index (pos n) words w e =
     (ap pos k, omega (arith, ltb-true n words t.0))
 at-index (negsuc n) words w e = absurd (clash (cc))
 
-pub at-word : (a : BitAddress) (words : ℕ) (w : WordIndex) → word_of a words ≡ At w → (a.0 ≡ 16 * w.0) × (w.0 < words)
+pub at-word : (a : BitAddress) (words : ℕ) (w : WordIndex) → word_of a words ≡ Some w → (a.0 ≡ 16 * w.0) × (w.0 < words)
 unfolding word_of
 at-word a words w e =
     let t = told-first (eqb (a.0 % 16) 0) (λ r. clash (cc)) e in
@@ -49,20 +48,16 @@ at-word a words w e =
     (omega (arith, eqb-true (a.0 % 16) 0 t.0), i.1)
 
 -- and back: the address of a word of the list is a target
-pub word-of : (w : WordIndex) (words : ℕ) → w.0 < words → word_of (record { 0 = 16 * w.0 }) words ≡ At w
+pub word-of : (w : WordIndex) (words : ℕ) → w.0 < words → word_of (record { 0 = 16 * w.0 }) words ≡ Some w
 unfolding word_of index_of
 word-of w words h =
-    rw (eq-eqb (16 * w.0 % 16) 0 (omega arith), lt-ltb (16 * w.0 / 16) words (omega arith)) (ap (λ (k : ℕ). At (record { 0 = k })) (omega arith))
+    rw (eq-eqb (16 * w.0 % 16) 0 (omega arith), lt-ltb (16 * w.0 / 16) words (omega arith)) (ap (λ (k : ℕ). Some (record { 0 = k })) (omega arith))
 
--- ---- an index s plus the offset of bits n: forward, back, and back too far
-
-module _ (s n : ℕ) where
-  pub forward : n < 2 ^ 31 → pos s +ℤ signed32 n ≡ pos (s + n)
-  forward h = rw (signed-pos n h)
-
-  module _ (h : 2 ^ 31 ≤ n) (k : n < 2 ^ 32) where
-    pub backward : 2 ^ 32 ≤ s + n → pos s +ℤ signed32 n ≡ pos (s + n - 2 ^ 32)
-    backward p = rw (signed-neg n h k, le-ltb s (suc (2 ^ 32 - suc n)) (omega arith)) (ap pos (omega arith))
-
-    pub too_far : s + n < 2 ^ 32 → pos s +ℤ signed32 n ≡ negsuc (2 ^ 32 - suc (s + n))
-    too_far p = rw (signed-neg n h k, lt-ltb s (suc (2 ^ 32 - suc n)) (omega arith)) (ap negsuc (omega arith))
+-- a number that no 32 bits make is no index of a list
+pub past-32 : (z : ℤ) (words : ℕ) → words < 2 ^ 32 → (FitsUnsigned w32 z → ⊥) → None ≡ index_of z words
+unfolding index_of
+past-32 (pos n) words k h = rw (le-ltb n words (omega (arith, beyond)))
+  where
+    beyond : n < words → ⊥
+    beyond l = h (grind (arith, ints), grind (arith, ints))
+past-32 (negsuc n) words k h = refl

@@ -1,7 +1,5 @@
 -- Document 01, 'Opcodes of the base': numbers. A variable is 32 bits; its value is a whole number from -2^31 to 2^31 - 1.
-use Rattle.std.specs.Prelude.{ℕ, ◌+◌, ◌-◌, ◌*◌, ◌%◌, ◌^◌, cond, ℤ, pos, negsuc, ◌+ℤ◌, ◌-ℤ◌, ◌*ℤ◌, ◌==◌, int_div, int_rem, nat_lt}
-use Rattle.numbers.specs.declared.arith.Division.{Division}
-use Rattle.numbers.specs.declared.arith.Division.TheVariants.{Gives, ByZero}
+use Rattle.std.specs.Prelude.{ℕ, ◌+◌, ◌-◌, ◌*◌, ◌%◌, ◌^◌, cond, ℤ, pos, negsuc, ◌+ℤ◌, ◌-ℤ◌, ◌*ℤ◌, ◌==◌, int_div, int_rem, nat_lt, Some, None, Option}
 
 -- the value of 32 bits that make the number n: n below 2^31, and n - 2^32 from there on
 unfoldable pub signed32 : ℕ → ℤ
@@ -48,5 +46,5 @@ unfoldable pub remainder32 : ℕ → ℕ → ℕ
 remainder32 a b = low32 (int_rem (signed32 a) (signed32 b))
 
 -- a division answers n, unless the divisor b is zero
-unfoldable pub unless_zero : ℕ → ℕ → Division
-unless_zero b n = cond (b == 0) ByZero (Gives n)
+unfoldable pub unless_zero : ℕ → ℕ → Option ℕ
+unless_zero b n = cond (b == 0) None (Some n)

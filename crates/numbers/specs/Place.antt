@@ -1,10 +1,8 @@
 -- Document 01, 'a variable number, a word index and a bit address never stand for one another': what is asked of each.
-use Rattle.std.specs.Prelude.{ℕ, ◌+◌, ◌-◌, ◌/◌, ◌%◌, Bool, cond, ℤ, pos, negsuc, ◌==◌, nat_lt}
+use Rattle.std.specs.Prelude.{ℕ, ◌+◌, ◌-◌, ◌/◌, ◌%◌, Bool, cond, ℤ, pos, negsuc, ◌==◌, nat_lt, Some, None, Option}
 use Rattle.numbers.specs.declared.place.VarNo.{VarNo}
 use Rattle.numbers.specs.declared.place.WordIndex.{WordIndex}
 use Rattle.numbers.specs.declared.place.BitAddress.{BitAddress}
-use Rattle.numbers.specs.declared.place.Target.{Target}
-use Rattle.numbers.specs.declared.place.Target.TheVariants.{At, Refused}
 
 -- there are V0 to V63: the last of n variables from v on is above 63
 unfoldable pub above : VarNo → ℕ → Bool
@@ -15,10 +13,10 @@ abbrev pub past : WordIndex → ℕ → WordIndex
 past i n = record { 0 = i.0 + n }
 
 -- a target must be a word index below the list's length
-unfoldable pub index_of : ℤ → ℕ → Target
-index_of (pos n) words = cond (nat_lt n words) (At (record { 0 = n })) Refused
-index_of (negsuc n) words = Refused
+unfoldable pub index_of : ℤ → ℕ → Option WordIndex
+index_of (pos n) words = cond (nat_lt n words) (Some (record { 0 = n })) None
+index_of (negsuc n) words = None
 
 -- a bit address from the list's start: a multiple of 16
-unfoldable pub word_of : BitAddress → ℕ → Target
-word_of a words = cond (a.0 % 16 == 0) (index_of (pos (a.0 / 16)) words) Refused
+unfoldable pub word_of : BitAddress → ℕ → Option WordIndex
+word_of a words = cond (a.0 % 16 == 0) (index_of (pos (a.0 / 16)) words) None

@@ -12,23 +12,16 @@ ghost use Rattle.numbers.specs.Number.{
 
 use crate::value::{of_signed, to_signed};
 
-// What a division answers.
-#[derive(Clone, Copy)]
-pub enum Division {
-    Gives(u32),
-    ByZero,
-}
-
 pub fn add(a: u32, b: u32) -> u32
     ensures { result ≡ sum32 a b }
 {
-    std::num::wrapping_add_u32(a, b)
+    a.wrapping_add(b)
 }
 
 pub fn sub(a: u32, b: u32) -> u32
     ensures { result ≡ difference32 a b }
 {
-    std::num::wrapping_sub_u32(a, b)
+    a.wrapping_sub(b)
 }
 
 pub fn inc(a: u32) -> u32
@@ -46,7 +39,7 @@ pub fn dec(a: u32) -> u32
 pub fn mul(a: u32, b: u32) -> u32
     ensures { result ≡ product32 a b }
 {
-    ((a as u64) * (b as u64) % 0x1_0000_0000) as u32
+    (u64::from(a) * u64::from(b) % 0x1_0000_0000) as u32
 }
 
 pub fn and(a: u32, b: u32) -> u32
@@ -61,30 +54,24 @@ pub fn or(a: u32, b: u32) -> u32
     a | b
 }
 
-// The least number by -1 has no quotient of 32 bits, so -1 goes by a wrapping difference.
-pub fn quotient(a: u32, b: u32) -> Division
+// The least number by -1 wraps to itself.
+pub fn quotient(a: u32, b: u32) -> Option<u32>
     ensures { result ≡ unless_zero b (quotient32 a b) }
 {
     if b == 0 {
-        return Division::ByZero;
+        return None;
     }
-    if b == 0xffff_ffff {
-        return Division::Gives(std::num::wrapping_sub_u32(0, a));
-    }
-    Division::Gives(of_signed(to_signed(a) / to_signed(b)))
+    Some(of_signed(to_signed(a).wrapping_div(to_signed(b))))
 }
 
-// By -1 nothing is left; the machine's `%` asks that the quotient fits.
-pub fn remainder(a: u32, b: u32) -> Division
+// By -1 nothing is left, of the least number too.
+pub fn remainder(a: u32, b: u32) -> Option<u32>
     ensures { result ≡ unless_zero b (remainder32 a b) }
 {
     if b == 0 {
-        return Division::ByZero;
+        return None;
     }
-    if b == 0xffff_ffff {
-        return Division::Gives(0);
-    }
-    Division::Gives(of_signed(to_signed(a) % to_signed(b)))
+    Some(of_signed(to_signed(a).wrapping_rem(to_signed(b))))
 }
 
 pub fn less(a: u32, b: u32) -> bool

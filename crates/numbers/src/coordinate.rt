@@ -5,62 +5,44 @@ ghost use Rattle.numbers.specs.Coordinate.{in_word, coordinate, radius};
 
 use crate::value::to_signed;
 
-#[derive(Clone, Copy)]
-pub enum Coordinate {
-    Within(i32),
-    Outside,
-}
-
 // An i64 holds every sum of two values.
-fn judge(z: i64) -> Coordinate
+fn judge(z: i64) -> Option<i32>
     ensures { result ≡ coordinate z }
 {
-    if z >= -32768 {
-        if z <= 32767 {
-            Coordinate::Within(z as i32)
-        } else {
-            Coordinate::Outside
-        }
+    if (-32768..=32767).contains(&z) {
+        Some(z as i32)
     } else {
-        Coordinate::Outside
+        None
     }
 }
 
-pub fn coordinate_of(v: u32) -> Coordinate
+pub fn coordinate_of(v: u32) -> Option<i32>
     ensures { result ≡ coordinate (signed32 v) }
 {
-    judge(to_signed(v) as i64)
+    judge(i64::from(to_signed(v)))
 }
 
-pub fn radius_of(v: u32) -> Coordinate
+pub fn radius_of(v: u32) -> Option<i32>
     ensures { result ≡ radius (signed32 v) }
 {
     let z = to_signed(v);
-    if z >= 0 {
-        if z <= 32767 {
-            Coordinate::Within(z)
-        } else {
-            Coordinate::Outside
-        }
+    if (0..=32767).contains(&z) {
+        Some(z)
     } else {
-        Coordinate::Outside
+        None
     }
 }
 
 // A coordinate shifted by an offset.
-pub fn shifted(at: i32, by: i32) -> Coordinate
+pub fn shifted(at: i32, by: i32) -> Option<i32>
     ensures { result ≡ coordinate (at +ℤ by) }
 {
-    judge((at as i64) + (by as i64))
+    judge(i64::from(at) + i64::from(by))
 }
 
 // Whether a value held as a coordinate is one.
 pub fn in_word(z: i32) -> bool
     ensures { result ≡ in_word z }
 {
-    let c = judge(z as i64);
-    match c {
-        Coordinate::Within(_) => true,
-        Coordinate::Outside => false,
-    }
+    judge(i64::from(z)).is_some()
 }

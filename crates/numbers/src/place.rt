@@ -4,23 +4,18 @@ ghost use Rattle.numbers.specs.Number.{signed32};
 ghost use Rattle.numbers.specs.Place as Place;
 ghost use Rattle.numbers.specs.Place.{index_of, word_of};
 
+use crate::value::to_signed;
+
 // What a word names, a variable or none.
-#[derive(Clone, Copy)]
+#[derive(Clone, Copy, Debug, PartialEq, Eq)]
 pub struct VarNo(pub u16);
 
 #[repr(C)]
-#[derive(Clone, Copy)]
+#[derive(Clone, Copy, Debug, PartialEq, Eq)]
 pub struct WordIndex(pub u32);
 
-#[derive(Clone, Copy)]
+#[derive(Clone, Copy, Debug, PartialEq, Eq)]
 pub struct BitAddress(pub u32);
-
-// Where a jump or a call goes.
-#[derive(Clone, Copy)]
-pub enum Target {
-    At(WordIndex),
-    Refused,
-}
 
 // Whether the last of n variables from v on is above 63.
 pub fn above(v: VarNo, n: u16) -> bool
@@ -40,36 +35,26 @@ impl WordIndex {
     }
 }
 
-fn index(n: u64, words: u32) -> Target
+fn index(n: u32, words: u32) -> Option<WordIndex>
     ensures { result ≡ index_of (pos n) words }
 {
-    if n < (words as u64) {
-        Target::At(WordIndex(n as u32))
-    } else {
-        Target::Refused
-    }
+    if n < words { Some(WordIndex(n)) } else { None }
 }
 
-pub fn word_at(a: BitAddress, words: u32) -> Target
+pub fn word_at(a: BitAddress, words: u32) -> Option<WordIndex>
     ensures { result ≡ word_of a words }
 {
     let bits = a.0;
     if bits % 16 != 0 {
-        return Target::Refused;
+        return None;
     }
-    index((bits / 16) as u64, words)
+    index(bits / 16, words)
 }
 
-// The sum of the bits is the target, or 2^32 above it where the offset is negative.
-pub fn word_from(next: WordIndex, offset: u32, words: u32) -> Target
+// A sum below 0, or above 32 bits, is no index of any list.
+pub fn word_from(next: WordIndex, offset: u32, words: u32) -> Option<WordIndex>
     ensures { result ≡ index_of (pos next.0 +ℤ signed32 offset) words }
 {
-    let sum = (next.0 as u64) + (offset as u64);
-    if offset < 0x8000_0000 {
-        return index(sum, words);
-    }
-    if sum < 0x1_0000_0000 {
-        return Target::Refused;
-    }
-    index(sum - 0x1_0000_0000, words)
+    let n = next.0.checked_add_signed(to_signed(offset))?;
+    index(n, words)
 }

@@ -11,7 +11,7 @@ use numbers::place::WordIndex;
 
 // What a call comes back with, and what a refusal says: a number of document 01's table and, with 20 to 29, the index of the
 // word at fault. All other numbers carry 0.
-#[derive(Clone, Copy)]
+#[derive(Clone, Copy, Debug, PartialEq, Eq)]
 pub struct Verdict {
     pub number: u8,
     pub place: WordIndex,
@@ -31,7 +31,7 @@ pub fn carrying_0(number: u8) -> Verdict
 pub type Upshot = Result<Option<Brush>, Verdict>;
 
 // The state that an environment holds: stopped with the refusal.
-#[derive(Clone, Copy)]
+#[derive(Clone, Copy, Debug, PartialEq, Eq)]
 pub enum State {
     Running,
     Ended,

@@ -5,6 +5,7 @@ use mathlib.Core.Bool.{Bool, true, false, cond}
 use mathlib.Core.List.{List}
 use lib.ListN.{length}
 use lib.Dec.{leb}
+use Rattle.std.specs.Prelude.{Some, None, Option}
 use Rattle.player.specs.Player.{Outcome}
 use Rattle.player.specs.Pane.{Apart}
 use Rattle.player.specs.Mixing.{Mix, ones, twos, mixed}
@@ -12,7 +13,7 @@ use Rattle.player.specs.Undisturbed.{Undisturbed}
 use Rattle.player.specs.Hosted.{callable}
 use Rattle.player.specs.Keeps.{Stays, Keeps}
 use Rattle.player.proofs.Hosts
-use Rattle.rules.specs.Types.{WordIndex, Target, At, Refused, Bounds, Operands}
+use Rattle.rules.specs.Types.{WordIndex, Bounds, Operands}
 use Rattle.rules.specs.Op as Op
 use Rattle.rules.specs.Meaning.{Meaning, Unknown, Known, meaning}
 use Rattle.rules.specs.Table.{form_of}
@@ -26,11 +27,11 @@ abbrev bounds : Env → Bounds
 bounds e = e.bounds
 
 -- ---- size and pane after each op
-reached : (t : Target) (e : Env) → (reach t e).bounds ≡ e.bounds
-reached (At i) e = refl
-reached Refused e = refl
+reached : (t : Option WordIndex) (e : Env) → (reach t e).bounds ≡ e.bounds
+reached (Some i) e = refl
+reached None e = refl
 
-jumped : (taken : Bool) (t : Target) (e : Env) → (cond taken (reach t e) e).bounds ≡ e.bounds
+jumped : (taken : Bool) (t : Option WordIndex) (e : Env) → (cond taken (reach t e) e).bounds ≡ e.bounds
 jumped true t e = reached t e
 jumped false t e = refl
 

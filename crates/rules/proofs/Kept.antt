@@ -8,12 +8,13 @@ use lib.ListN.{length, take, get_or, length-append, length-take}
 use lib.Dec.{ltb, leb, eqb}
 use lib.IntN.{ℤ, pos, negsuc, ◌+ℤ◌}
 use borrow.Author.Tests.{not-false, ltb-true, ltb-false, leb-true, leb-false, le-leb, lt-leb, eqb-false}
+use Rattle.std.specs.Prelude.{Some, None, Option}
 use Rattle.numbers.specs.Number.{signed32}
 use Rattle.numbers.specs.Place.{past, word_of, index_of}
 use Rattle.raster.specs.Shapes.{shifted}
 use Rattle.player.specs.Player.{fault, Outcome, refused}
 use Rattle.player.proofs.Runs.{Leaves}
-use Rattle.rules.specs.Types.{WordIndex, BitAddress, Target, At, Refused, Bounds, Window, Dot, Operands, Repeat, Stopped}
+use Rattle.rules.specs.Types.{WordIndex, BitAddress, Bounds, Window, Dot, Operands, Repeat, Stopped}
 use Rattle.rules.specs.Op as Op
 use Rattle.rules.specs.Meaning.{Meaning, Unknown, Known, meaning}
 use Rattle.rules.specs.Table.{form_of}
@@ -168,15 +169,15 @@ module _ {b : Bounds} (e : Env) (h : Fits b e) where
     goes_on = pass (another r) refl
 
 -- ---- targets, in a list of at most 65,536 words
-abbrev Small : Target → Type 0
-Small (At i) = i.0 ≤ 65536
-Small Refused = Unit {0}
+abbrev Small : Option WordIndex → Type 0
+Small (Some i) = i.0 ≤ 65536
+Small None = Unit {0}
 
 small-index : (z : ℤ) (n : ℕ) → n ≤ 65536 → Small (index_of z n)
 unfolding index_of
 small-index (pos k) n h = go (ltb k n) refl
   where
-    go : (b : Bool) → ltb k n ≡ b → Small (cond b (At (record { 0 = k })) Refused)
+    go : (b : Bool) → ltb k n ≡ b → Small (cond b (Some (record { 0 = k })) None)
     go true p = let q = ltb-true k n p in omega (arith, q, h)
     go false p = tt
 small-index (negsuc k) n h = tt
@@ -185,15 +186,15 @@ small_word : (a : BitAddress) (n : ℕ) → n ≤ 65536 → Small (word_of a n)
 unfolding word_of
 small_word a n h = go (eqb (a.0 % 16) 0)
   where
-    go : (b : Bool) → Small (cond b (index_of (pos (a.0 / 16)) n) Refused)
+    go : (b : Bool) → Small (cond b (index_of (pos (a.0 / 16)) n) None)
     go true = small-index (pos (a.0 / 16)) n h
     go false = tt
 
-reached : {b : Bounds} (t : Target) (e : Env) → Small t → Fits b e → Fits b (reach t e)
-reached (At i) e s h = gone e h i s
-reached Refused e s h = h
+reached : {b : Bounds} (t : Option WordIndex) (e : Env) → Small t → Fits b e → Fits b (reach t e)
+reached (Some i) e s h = gone e h i s
+reached None e s h = h
 
-jumped : {b : Bounds} (taken : Bool) (t : Target) (e : Env) → Small t → Fits b e → Fits b (cond taken (reach t e) e)
+jumped : {b : Bounds} (taken : Bool) (t : Option WordIndex) (e : Env) → Small t → Fits b e → Fits b (cond taken (reach t e) e)
 jumped true t e s h = reached t e s h
 jumped false t e s h = h
 

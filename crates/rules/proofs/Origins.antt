@@ -5,13 +5,14 @@ use mathlib.Core.Path.{◌≡◌, refl, ap, ◌∙◌}
 use mathlib.Core.Bool.{Bool, true, false, cond, ◌&&◌, ◌||◌}
 use lib.Dec.{eqb}
 use lib.IntN.{ℤ}
+use Rattle.std.specs.Prelude.{Some, None, Option}
 use Rattle.raster.specs.Shapes.{Shape, top_left, moved_by}
 use Rattle.raster.specs.Frame.{on_screen, in_pane, in_window}
 use Rattle.raster.proofs.Moved.{not-moved}
 use Rattle.raster.proofs.Paintings.{drawable-without}
 use Rattle.player.specs.Painting.{placed}
 use Rattle.player.specs.Shown.{marks}
-use Rattle.rules.specs.Types.{Target, At, Refused, Dot, Operands}
+use Rattle.rules.specs.Types.{WordIndex, Dot, Operands}
 use Rattle.rules.specs.Op as Op
 use Rattle.rules.specs.Environment.{Env, based, pushed, closed, innermost, frame}
 use Rattle.rules.specs.Opcodes.{Rule, rule, point, taken, absolute, relative, reach, another}
@@ -23,11 +24,11 @@ with_origin p r = record { breaks = r.breaks; env = based p r.env; shape = r.sha
 other-env : (r : Rule) {e : Env} → r.env ≡ e → r ≡ record { breaks = r.breaks; env = e; shape = r.shape; colour = r.colour }
 other-env r q = λ i. record { breaks = r.breaks; env = q i; shape = r.shape; colour = r.colour }
 
-reached : (t : Target) (p : Dot) (e : Env) → reach t (based p e) ≡ based p (reach t e)
-reached (At i) p e = refl
-reached Refused p e = refl
+reached : (t : Option WordIndex) (p : Dot) (e : Env) → reach t (based p e) ≡ based p (reach t e)
+reached (Some i) p e = refl
+reached None p e = refl
 
-jumped : (taken : Bool) (t : Target) (p : Dot) (e : Env) → cond taken (reach t (based p e)) (based p e) ≡ based p (cond taken (reach t e) e)
+jumped : (taken : Bool) (t : Option WordIndex) (p : Dot) (e : Env) → cond taken (reach t (based p e)) (based p e) ≡ based p (cond taken (reach t e) e)
 jumped true t p e = reached t p e
 jumped false t p e = refl
 

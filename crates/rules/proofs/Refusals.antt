@@ -7,6 +7,7 @@ use lib.ListN.{length}
 use native.Mathlib.Omega.{arith}
 use borrow.Author.Tests.{leb-true}
 use lib.Dec.{leb}
+use Rattle.std.specs.Prelude.{Some, None, Option}
 use Rattle.player.specs.Player.{verdict, Outcome, Unstopped, LeavesUnstopped, OnlyRefusalsStop}
 use Rattle.player.specs.Hosted.{Request}
 use Rattle.player.specs.Stands.{LetsInLess, Stands}
@@ -16,7 +17,7 @@ use Rattle.player.specs.declared.State.{State}
 use Rattle.player.specs.declared.State.TheVariants.{Ended}
 use Rattle.player.specs.Run.{Answer}
 use Rattle.player.specs.Shown.{verdict_of}
-use Rattle.rules.specs.Types.{WordIndex, Target, At, Refused, Verdict, Running, Stopped, Operands}
+use Rattle.rules.specs.Types.{WordIndex, Verdict, Running, Stopped, Operands}
 use Rattle.rules.specs.Op as Op
 use Rattle.rules.specs.Meaning.{Meaning, Unknown, Known, meaning}
 use Rattle.rules.specs.Table.{form_of}
@@ -31,11 +32,11 @@ use Rattle.rules.proofs.Ranges.{one}
 abbrev Going : Env → Type 0
 Going e = Unstopped e.state
 
-reached : (t : Target) (e : Env) → Going e → Going (reach t e)
-reached (At i) e h = h
-reached Refused e h = h
+reached : (t : Option WordIndex) (e : Env) → Going e → Going (reach t e)
+reached (Some i) e h = h
+reached None e h = h
 
-jumped : (taken : Bool) (t : Target) (e : Env) → Going e → Going (cond taken (reach t e) e)
+jumped : (taken : Bool) (t : Option WordIndex) (e : Env) → Going e → Going (cond taken (reach t e) e)
 jumped true t e h = reached t e h
 jumped false t e h = h
 

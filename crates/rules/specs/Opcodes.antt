@@ -1,5 +1,5 @@
 -- Document 01, 'Opcodes of the base', and document 02, T-01, T-03, T-06 and T-09: what each op does, one clause an op. A clause finds the counter at the next opcode.
-use Rattle.std.specs.Prelude.{ℕ, ◌-◌, Bool, true, false, cond, not, ◌&&◌, ◌||◌, length, ltb, leb, eqb, pos, ◌+ℤ◌}
+use Rattle.std.specs.Prelude.{ℕ, ◌-◌, Bool, false, cond, not, ◌&&◌, ◌||◌, length, ltb, leb, eqb, pos, ◌+ℤ◌, Some, None, Option, is_none}
 use Rattle.std.specs.Int.Bits.{bit_and, bit_or}
 use Rattle.numbers.specs.Number.{signed32, low8, sum32, difference32, product32, quotient32, remainder32}
 use Rattle.numbers.specs.Coordinate.{in_word, is_radius}
@@ -8,7 +8,7 @@ use Rattle.raster.specs.Shapes.{Shape, dot, shifted, all}
 use Rattle.lines.specs.Line.{line}
 use Rattle.lines.specs.Dashes.{dashed}
 use Rattle.circles.specs.Circle.{disc, outline}
-use Rattle.rules.specs.Types.{Target, At, Refused, Dot, Window, Line, Circle, Operands, Repeat, Ended}
+use Rattle.rules.specs.Types.{WordIndex, Dot, Window, Line, Circle, Operands, Repeat, Ended}
 use Rattle.rules.specs.Op as Op
 use Rattle.rules.specs.Operands.{at}
 use Rattle.rules.specs.Environment.{Env, put, moved, based, coloured, patterned, clipped, windowed, compared, goto, stated, pushed, popped, top, repeat, opened, closed, innermost}
@@ -44,34 +44,33 @@ gives v o e = leaves (put o.dest v e)
 -- ---- targets, in a list of n words
 
 -- a bit address from the list's start
-abbrev pub absolute : ℕ → ℕ → Target
+abbrev pub absolute : ℕ → ℕ → Option WordIndex
 absolute bits n = word_of (record { 0 = bits }) n
 
 -- the next opcode's index plus the signed offset
-abbrev pub relative : ℕ → Env → ℕ → Target
+abbrev pub relative : ℕ → Env → ℕ → Option WordIndex
 relative offset e n = index_of (pos e.flow.counter.0 +ℤ signed32 offset) n
 
-abbrev pub missing : Target → Bool
-missing (At i) = false
-missing Refused = true
+abbrev pub missing : Option WordIndex → Bool
+missing t = is_none t
 
-abbrev pub reach : Target → Env → Env
-reach (At i) e = goto i e
-reach Refused e = e
+abbrev pub reach : Option WordIndex → Env → Env
+reach (Some i) e = goto i e
+reach None e = e
 
 -- whether condition k is met by the values last compared
 abbrev pub taken : ℕ → Env → Bool
 taken k e = met k (signed32 e.flow.first) (signed32 e.flow.second)
 
 -- a jump not taken does not look at its target
-abbrev pub jumps : ℕ → Target → Env → Rule
+abbrev pub jumps : ℕ → Option WordIndex → Env → Rule
 jumps k t e =
     refuse 24 (not (allowed k))
     (refuse 27 (taken k e && missing t)
     (leaves (cond (taken k e) (reach t e) e)))
 
 -- the return index is the next opcode's
-abbrev pub calls : Target → Env → Rule
+abbrev pub calls : Option WordIndex → Env → Rule
 calls t e = refuse 27 (missing t) (refuse 28 (leb 16 (length e.flow.stack)) (leaves (reach t (pushed e.flow.counter e))))
 
 -- ---- repeats

@@ -2,8 +2,6 @@
 pub use Rattle.numbers.specs.declared.place.VarNo.{VarNo}
 pub use Rattle.numbers.specs.declared.place.WordIndex.{WordIndex}
 pub use Rattle.numbers.specs.declared.place.BitAddress.{BitAddress}
-pub use Rattle.numbers.specs.declared.place.Target.{Target}
-pub use Rattle.numbers.specs.declared.place.Target.TheVariants.{At, Refused}
 pub use Rattle.raster.specs.declared.frame.Bounds.{Bounds}
 pub use Rattle.raster.specs.declared.frame.Window.{Window}
 pub use Rattle.raster.specs.declared.frame.Frame.{Frame}

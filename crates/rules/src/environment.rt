@@ -75,21 +75,17 @@ pub struct Env {
 fn carries_0(v: Verdict, number: u8) -> bool
     ensures { result ≡ carries0 v number }
 {
-    if v.number == number {
-        v.place.0 == 0
-    } else {
-        false
-    }
+    v.number == number && v.place == WordIndex(0)
 }
 
 // The state that number and place stand for.
+#[tactic(auto, unfolding(crate::specs::Environment::state_of))]
 pub fn state_of(r: Registers) -> State
     ensures { result ≡ state_of (fault r.state r.place) }
 {
-    let place = r.place;
     let v = Verdict {
         number: r.state,
-        place,
+        place: r.place,
     };
     if carries_0(v, 0) {
         return State::Running;

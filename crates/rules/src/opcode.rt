@@ -2,7 +2,7 @@
 use numbers::place::VarNo;
 
 // Those that go elsewhere, repeat, end or do nothing,
-#[derive(Clone, Copy)]
+#[derive(Clone, Copy, Debug, PartialEq, Eq)]
 pub enum FlowForm {
     Noop,
     Eodl,
@@ -18,7 +18,7 @@ pub enum FlowForm {
 }
 
 // those of the variables and the values compared,
-#[derive(Clone, Copy)]
+#[derive(Clone, Copy, Debug, PartialEq, Eq)]
 pub enum ValueForm {
     Adiv,
     Advv,
@@ -39,7 +39,7 @@ pub enum ValueForm {
 }
 
 // those that set what is drawn with,
-#[derive(Clone, Copy)]
+#[derive(Clone, Copy, Debug, PartialEq, Eq)]
 pub enum PenForm {
     Clipmode,
     Clipmodev,
@@ -58,7 +58,7 @@ pub enum PenForm {
 }
 
 // and those that paint.
-#[derive(Clone, Copy)]
+#[derive(Clone, Copy, Debug, PartialEq, Eq)]
 pub enum PaintForm {
     Cir,
     Cirv,
@@ -78,7 +78,7 @@ pub enum PaintForm {
     Clrwinv,
 }
 
-#[derive(Clone, Copy)]
+#[derive(Clone, Copy, Debug, PartialEq, Eq)]
 pub enum Form {
     Unknown,
     Flow(FlowForm),
@@ -88,7 +88,7 @@ pub enum Form {
 }
 
 // What was read: at most five values of 32 bits, and the variable named as destination.
-#[derive(Clone, Copy)]
+#[derive(Clone, Copy, Debug, PartialEq, Eq)]
 pub struct Operands {
     pub a: u32,
     pub b: u32,

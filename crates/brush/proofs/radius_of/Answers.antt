@@ -1,5 +1,5 @@
 -- `radius_of`: the radius is not below 0.
-use Rattle.std.proofs.Common.{◌≡◌, tt, arith}
+use Rattle.std.proofs.Common.{arith}
 use Rattle.brush.proofs.Held.{radius-small, radius-natural, radius-back}
 use Rattle.brush.proofs.radius_of.Goals as goal
 

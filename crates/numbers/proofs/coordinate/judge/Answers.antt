@@ -1,21 +1,22 @@
--- `judge`: the two tests are those of `in_word`.
-use Rattle.std.proofs.Common.{◌≡◌, true, arith, to_z-of_z, w32, w64}
+-- `judge`: the range is that of `in_word`.
+use Rattle.std.proofs.Common.{rules, ◌≡◌, true, false, pos, negsuc, arith, to_z-of_z, w32, w64, to_z, of_z}
+use lib.Signed.{le_z}
 use Rattle.numbers.specs.Coordinate.{in_word, coordinate}
 use Rattle.numbers.proofs.Coordinates.{between, within-mag}
 use Rattle.numbers.proofs.coordinate.judge.Goals as goal
 
-pub returns-then-z-le32767 : goal.returns-then-z-le32767
+pub returns-then-contains : goal.returns-then-contains
 unfolding coordinate
-returns-then-z-le32767 c =
+returns-then-contains c =
     let e = to_z-of_z {w = w64} c.ranges.z in
-    let within : in_word c.args.z ≡ true = between c.args.z (rw e at c.if-z-geminus32768.true) (rw e at c.if-z-le32767.true) in
+    let low : le_z (negsuc 32767) (to_z w64 (of_z w64 c.args.z)) ≡ true = search rules in
+    let high : le_z (to_z w64 (of_z w64 c.args.z)) (pos 32767) ≡ true = search rules in
+    let within : in_word c.args.z ≡ true = between c.args.z (rw e at low) (rw e at high) in
     rw (e, to_z-of_z {w = w32} {z = c.args.z} (record { sfits = omega (arith, within-mag c.args.z within) }), within)
 
-pub returns-else-z-le32767 : goal.returns-else-z-le32767
+pub returns-else-contains : goal.returns-else-contains
 unfolding coordinate in_word
-returns-else-z-le32767 c =
-    let e = to_z-of_z {w = w64} c.ranges.z in rw (rw e at c.if-z-geminus32768.true, rw e at c.if-z-le32767.false)
-
-pub returns-else-z-geminus32768 : goal.returns-else-z-geminus32768
-unfolding coordinate in_word
-returns-else-z-geminus32768 c = rw (rw (to_z-of_z {w = w64} c.ranges.z) at c.if-z-geminus32768.false)
+returns-else-contains c =
+    let e = to_z-of_z {w = w64} c.ranges.z in
+    let w : in_word c.args.z ≡ false = grind (arith, c.if-contains.ensures.cases) in
+    rw w

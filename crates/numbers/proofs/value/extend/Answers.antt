@@ -1,7 +1,12 @@
--- `extend`: a word below 2^15 is kept, and another gets sixteen ones above it.
-use Rattle.std.proofs.Common.{sym}
-use Rattle.numbers.proofs.Bits.{extended}
+-- `extend`: the machine reads the word as we do, and widens its value.
+use Rattle.std.proofs.Common.{rules, ◌≡◌, ◌∙◌, to_z-of_z}
+use Rattle.numbers.specs.Number.{signed16}
+use Rattle.numbers.proofs.Machine.{machine-bits, machine-reads16}
 use Rattle.numbers.proofs.value.extend.Goals as goal
 
 pub returns : goal.returns
-returns c = sym (extended c.args.word c.ranges.word.fits)
+returns c =
+    let k = c.ranges.word.fits in
+    let read : c.cast_signed.result ≡ signed16 c.args.word = c.cast_signed.ensures ∙ machine-reads16 c.args.word k in
+    let widened : c.from.result ≡ signed16 c.args.word = search (rules, to_z-of_z) in
+    search (rules, to_z-of_z, machine-bits)
