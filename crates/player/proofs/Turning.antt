@@ -10,17 +10,17 @@ use Rattle.raster.specs.declared.frame.Bounds.{Bounds}
 use Rattle.raster.specs.declared.frame.Frame.{Frame}
 use Rattle.raster.specs.Shapes.{moved_by}
 use Rattle.raster.specs.Paint.{paint}
-use Rattle.brush.specs.Brush.{shape_of, colour_of}
+use Rattle.std.specs.Prelude.{Ok, Err, Some, None}
+use Rattle.brush.specs.declared.Brush.{Brush}
+use Rattle.brush.specs.Brush.{shape_of}
 use Rattle.raster.proofs.Recolour.{none, length-recolour}
 use Rattle.player.specs.declared.Verdict.{Verdict}
-use Rattle.player.specs.declared.Upshot.{Upshot}
-use Rattle.player.specs.declared.Upshot.TheVariants.{Quiet, Brushed, Refused}
 use Rattle.player.specs.declared.State.{State}
 use Rattle.player.specs.declared.State.TheVariants.{Running, Ended, Stopped}
 use Rattle.player.specs.Painting.{Painting, painted}
 use Rattle.player.specs.Player.{Outcome, done, refused, Player, Stops}
 use Rattle.player.specs.Run.{Answer, answer, by_state, by_opcode, runs}
-use Rattle.player.specs.Shown.{Marks, marks, unmarked, marked, went, halted, shown, brushed, seen, verdict_of}
+use Rattle.player.specs.Shown.{Marks, marks, unmarked, marked, went, halted, shown, brushed, Upshot, seen, verdict_of}
 
 pub one_less : (b k : ℕ) → k < b → b - k ≡ suc (b - (k + 1))
 one_less b k h = omega arith
@@ -46,28 +46,29 @@ module _ {E : Type 0} (P : Player E) where
   pub turned-long : {e : E} {s : List ℕ} {e₁ : E} {s₁ : List ℕ} → Turned e s e₁ s₁ → length s₁ ≡ length s
   turned-long {s = s} t = ap length t.screen ∙ length-recolour _ _ s
 
-  module _ (frame : E → Frame) (e : E) (s : List ℕ) {u : Upshot} (e₁ : E) (p : List ℕ) (as-shown : seen frame u e₁ p ≡ shown P.stop (P.step e) e) where
-    -- what the brush holds is to be painted
-    pub painting : u ≡ Brushed → went e₁ (marks (brushed (frame e₁) p)) ≡ shown P.stop (P.step e) e
+  module _ (frame : E → Frame) (e : E) (s : List ℕ) {u : Upshot} (e₁ : E) (as-shown : seen frame P.stop u e₁ ≡ shown P.stop (P.step e) e) where
+    -- what a brush holds is to be painted
+    pub painting : {p : Brush} → u ≡ Ok (Some p) → went e₁ (marks (brushed (frame e₁) p)) ≡ shown P.stop (P.step e) e
     painting is = rw is at as-shown
 
-    pub turned-painting : u ≡ Brushed → {s₁ : List ℕ} {f : Frame} → f ≡ frame e₁ → s₁ ≡ paint f (moved_by f.origin (shape_of p)) (colour_of p) s → Turned e s e₁ s₁
-    turned-painting is same x =
+    pub turned-painting : {p : Brush} → u ≡ Ok (Some p) → {s₁ : List ℕ} {f : Frame} → f ≡ frame e₁
+        → s₁ ≡ paint f (moved_by f.origin (shape_of p.figure)) p.colour s → Turned e s e₁ s₁
+    turned-painting {p} is same x =
         record {
           dots = marks (brushed (frame e₁) p);
-          screen = x ∙ (ap (λ (g : Frame). paint g (moved_by g.origin (shape_of p)) (colour_of p) s) same ∙ sym (marked-is (brushed (frame e₁) p) s));
+          screen = x ∙ (ap (λ (g : Frame). paint g (moved_by g.origin (shape_of p.figure)) p.colour s) same ∙ sym (marked-is (brushed (frame e₁) p) s));
           shows = painting is;
         }
 
     -- nothing is
-    pub quiet : u ≡ Quiet → went e₁ (unmarked (frame e₁).bounds) ≡ shown P.stop (P.step e) e
+    pub quiet : u ≡ Ok None → went e₁ (unmarked (frame e₁).bounds) ≡ shown P.stop (P.step e) e
     quiet is = rw is at as-shown
 
-    pub turned-quiet : u ≡ Quiet → {s₁ : List ℕ} → s₁ ≡ s → Turned e s e₁ s₁
+    pub turned-quiet : u ≡ Ok None → {s₁ : List ℕ} → s₁ ≡ s → Turned e s e₁ s₁
     turned-quiet is x = let b = (frame e₁).bounds in record { dots = unmarked b; screen = x ∙ unmarked-is b s; shows = quiet is }
 
     -- it is refused
-    pub not-carried-out : u ≡ Refused → halted e₁ ≡ shown P.stop (P.step e) e
+    pub not-carried-out : {v : Verdict} → u ≡ Err v → halted (P.stop v e₁) ≡ shown P.stop (P.step e) e
     not-carried-out is = rw is at as-shown
 
 module _ {E : Type 0} (P : Player E) (e : E) (s : List ℕ) (k : ℕ) where
