@@ -16,9 +16,8 @@ use Rattle.rules.specs.Operands.{Source, at, size_of, highest, first_above, oper
 use Rattle.rules.specs.Environment.{Env, goto}
 use Rattle.rules.specs.Opcodes.{rule}
 use Rattle.rules.specs.Step.{check, carried, step}
-use Rattle.fetch.specs.declared.source.Taken.{Taken}
-use Rattle.fetch.specs.declared.source.Taken.TheVariants.{Refused, Got}
-use Rattle.fetch.specs.Stages.{taken_of}
+use Rattle.std.specs.Prelude.{Ok, Err}
+use Rattle.fetch.specs.Stages.{fetched, Taken, taken_of}
 
 module _ (w : List ℕ) (e : Env) where
   pub step-20 : length w ≤ e.flow.counter.0 → step w e ≡ refused (fault 20 e.flow.counter)
@@ -32,8 +31,8 @@ module _ (w : List ℕ) (e : Env) where
 
     -- what an op makes of what was taken
     abbrev pub resolved : Op → Taken → Outcome Env
-    resolved op (Refused n i) = refused (fault n i)
-    resolved op (Got o next) = carried (rule op o (length w) (goto next e)) e
+    resolved op (Err v) = refused v
+    resolved op (Ok f) = carried (rule op f.operands (length w) (goto f.next e)) e
 
     pub step-taken : {op : Op} {s : Source} → meaning (form_of (at w e.flow.counter.0)) ≡ Known op s
         → step w e ≡ resolved op (taken_of s w e.flow.counter.0 e.variables)
@@ -46,7 +45,7 @@ module _ (w : List ℕ) (e : Env) where
       where
         go : (o : Operands) (next i : WordIndex) (b d : Bool)
             → check 22 e.flow.counter b (check 23 i d (carried (rule op o (length w) (goto next e)) e))
-            ≡ resolved op (cond b (Refused 22 e.flow.counter) (cond d (Refused 23 i) (Got o next)))
+            ≡ resolved op (cond b (Err (fault 22 e.flow.counter)) (cond d (Err (fault 23 i)) (Ok (fetched o next))))
         go o next i true d = refl
         go o next i false true = refl
         go o next i false false = refl

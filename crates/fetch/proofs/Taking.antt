@@ -13,8 +13,9 @@ use Rattle.numbers.specs.Place as Place
 use Rattle.numbers.specs.Number.{signed16, low32}
 use Rattle.rules.specs.declared.opcode.Operands.{Operands}
 use Rattle.rules.specs.Operands.{Source, from, dest, plain, at, size_of, highest, first_above, following, values, destination, gathered}
-use Rattle.fetch.specs.declared.source.Taken.TheVariants.{Refused, Got}
-use Rattle.fetch.specs.Stages.{onto_of, taken_of}
+use Rattle.std.specs.Prelude.{Ok, Err}
+use Rattle.player.specs.Player.{fault}
+use Rattle.fetch.specs.Stages.{fetched, onto_of, taken_of}
 
 -- ---- n variables from v on, where j are passed already
 
@@ -55,36 +56,36 @@ all_words (suc n) = omega (arith, all_words n)
 
 -- ---- a destination d, above 63 or not, which word i names, and v the variable that it is
 module _ (i : WordIndex) (a d : ℕ) (v : VarNo) (is : v.0 ≡ d) (next : WordIndex) where
-  pub above : Place.above v 1 ≡ true → Refused 23 i ≡ onto_of i a (record { 0 = d }) next
+  pub above : Place.above v 1 ≡ true → Err (fault 23 i) ≡ onto_of i a (record { 0 = d }) next
   unfolding onto_of
   above h = rw (← is, h)
 
   pub below : {n : WordIndex} → n.0 ≡ next.0 → Place.above v 1 ≡ false
-      → Got (record { a = a; b = 0; c = 0; d = 0; e = 0; dest = v }) n ≡ onto_of i a (record { 0 = d }) next
+      → Ok (fetched (record { a = a; b = 0; c = 0; d = 0; e = 0; dest = v }) n) ≡ onto_of i a (record { 0 = d }) next
   unfolding onto_of
-  below e h = rw (← is, h) (λ i. Got (record { a = a; b = 0; c = 0; d = 0; e = 0; dest = v }) (record { 0 = e i }))
+  below e h = rw (← is, h) (λ i. Ok (fetched (record { a = a; b = 0; c = 0; d = 0; e = 0; dest = v }) (record { 0 = e i })))
 
 -- ---- a source
 module _ (ps : Source) (w : List ℕ) (pc : ℕ) (vs : List ℕ) where
-  pub short : length w < pc + size_of ps → Refused 22 (record { 0 = pc }) ≡ taken_of ps w pc vs
+  pub short : length w < pc + size_of ps → Err (fault 22 (record { 0 = pc })) ≡ taken_of ps w pc vs
   unfolding taken_of
   short l = rw (lt-ltb _ _ l)
 
   module _ (l : pc + size_of ps ≤ length w) where
     -- the first misnamed piece stands k words past the opcode
-    pub over : (k : ℕ) → 63 < highest ps w pc 1 → first_above ps w pc 1 ≡ k → Refused 23 (record { 0 = pc + k }) ≡ taken_of ps w pc vs
+    pub over : (k : ℕ) → 63 < highest ps w pc 1 → first_above ps w pc 1 ≡ k → Err (fault 23 (record { 0 = pc + k })) ≡ taken_of ps w pc vs
     unfolding taken_of
     over k h f = rw (le-ltb _ _ l, lt-ltb _ _ h, f)
 
     pub fine : {o : Operands} {next : ℕ} → highest ps w pc 1 ≤ 63 → o ≡ gathered (values ps w pc 1 vs) (destination ps w pc 1) → next ≡ pc + size_of ps
-        → Got o (record { 0 = next }) ≡ taken_of ps w pc vs
+        → Ok (fetched o (record { 0 = next })) ≡ taken_of ps w pc vs
     unfolding taken_of
     fine h e n = rw (le-ltb _ _ l, le-ltb _ _ h, e, n)
 
     -- at most three values
     pub three : {a b c next : ℕ} → highest ps w pc 1 ≤ 63 → let v = values ps w pc 1 vs in (a ≡ at v 0) × (b ≡ at v 1) × (c ≡ at v 2)
         → gathered (at v 0 ∷ at v 1 ∷ at v 2 ∷ []) 0 ≡ gathered v (destination ps w pc 1) → next ≡ pc + size_of ps
-        → Got (record { a = a; b = b; c = c; d = 0; e = 0; dest = record { 0 = 0 } }) (record { 0 = next }) ≡ taken_of ps w pc vs
+        → Ok (fetched (record { a = a; b = b; c = c; d = 0; e = 0; dest = record { 0 = 0 } }) (record { 0 = next })) ≡ taken_of ps w pc vs
     three h q r n = fine h ((λ i. record { a = q.0 i; b = q.1 i; c = q.2 i; d = 0; e = 0; dest = record { 0 = 0 } }) ∙ r) n
 
     -- at most one value and a destination v, named k words past the opcode, while no other variable is above 63
@@ -95,14 +96,14 @@ module _ (ps : Source) (w : List ℕ) (pc : ℕ) (vs : List ℕ) where
     onto {a} k v low high f q r = go (ltb 63 (v + 0)) refl
       where
         go : (b : Bool) → ltb 63 (v + 0) ≡ b
-            → cond b (Refused 23 (record { 0 = pc + k })) (Got (gathered (a ∷ []) v) (record { 0 = pc + size_of ps })) ≡ taken_of ps w pc vs
+            → cond b (Err (fault 23 (record { 0 = pc + k }))) (Ok (fetched (gathered (a ∷ []) v) (record { 0 = pc + size_of ps }))) ≡ taken_of ps w pc vs
         go true p = let above : 63 < v = omega (arith, ltb-true 63 (v + 0) p) in over k (omega (arith, above, low)) (f above)
         go false p = fine (omega (arith, ltb-false 63 (v + 0) p)) (ap (λ (a : ℕ). gathered (a ∷ []) v) q ∙ r) refl
 
 -- ---- the word v behind the opcode names the first of n variables: above 63, it is the first misnamed; else a destination behind it is
 module _ (w : List ℕ) (pc : ℕ) {v : ℕ} (is : v ≡ at w (pc + 1)) where
   pub over_first : (n : ℕ) (ps : Source) (vs : List ℕ) → pc + size_of (from n ∷ ps) ≤ length w → 63 < v + (n - 1)
-      → Refused 23 (record { 0 = pc + 1 }) ≡ taken_of (from n ∷ ps) w pc vs
+      → Err (fault 23 (record { 0 = pc + 1 })) ≡ taken_of (from n ∷ ps) w pc vs
   over_first n ps vs l h =
       let high : 63 < at w (pc + 1) + (n - 1) = rw is at h in
       over (from n ∷ ps) w pc vs l 1 (omega (arith, high)) (rw (lt-ltb _ _ high))
@@ -111,5 +112,5 @@ module _ (w : List ℕ) (pc : ℕ) {v : ℕ} (is : v ≡ at w (pc + 1)) where
   next-over low h = let first : at w (pc + 1) + 0 ≤ 63 = omega (arith, low, is) in rw (le-ltb _ _ first, lt-ltb _ _ h)
 
 pub from-variable : (n : ℕ) (w : List ℕ) (pc : ℕ) (vs : List ℕ) (v : ℕ) {o : Operands} {next : ℕ} → v ≡ at w (pc + 1) → pc + 2 ≤ length w → v ≤ 63 → v + n ≤ 64
-    → o ≡ gathered (following n v 0 vs) 0 → next ≡ pc + 2 → Got o (record { 0 = next }) ≡ taken_of (from n ∷ []) w pc vs
+    → o ≡ gathered (following n v 0 vs) 0 → next ≡ pc + 2 → Ok (fetched o (record { 0 = next })) ≡ taken_of (from n ∷ []) w pc vs
 from-variable n w pc vs v e l h k g q = fine (from n ∷ []) w pc vs l (omega arith) (g ∙ rw (e, append-nil)) q

@@ -1,5 +1,2 @@
--- What the proofs of lent's functions cite, and then what those of act and draw share.
-pub mod LentLaws
-pub mod StackLaws
+-- What the proofs of act, draw and step share.
 pub mod Acting
-pub mod Handing

@@ -1,11 +1,12 @@
 -- `plain`: each value is the one of its place, and words name no variable.
-use mathlib.Core.Path.{◌∙◌}
+use mathlib.Core.Path.{ap, ◌∙◌}
 use native.Mathlib.Omega.{arith}
+use Rattle.std.specs.Prelude.{Err}
 use Rattle.fetch.proofs.Taking.{all_words, no-variable, no-destination, short, fine}
 use Rattle.fetch.proofs.source.plain.Goals as goal
 
 pub returns-then-left-n : goal.returns-then-left-n
-returns-then-left-n c vs = c.cut.ensures ∙ short _ _ _ vs (rw all_words (omega arith))
+returns-then-left-n c vs = ap Err c.cut.ensures ∙ short _ _ _ vs (rw all_words (omega arith))
 
 pub returns : goal.returns
 returns c vs =

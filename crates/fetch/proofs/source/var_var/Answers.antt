@@ -1,17 +1,18 @@
 -- `var_var`: the source is judged, and the destination's answer is handed on.
-use mathlib.Core.Path.{refl, sym, ◌∙◌}
+use mathlib.Core.Path.{ap, refl, sym, ◌∙◌}
 use native.Mathlib.Omega.{arith}
 use Rattle.numbers.proofs.Places.{is-above, not-above}
+use Rattle.std.specs.Prelude.{Err}
 use Rattle.fetch.proofs.Taking.{short, onto, over_first, next-over}
 use Rattle.fetch.proofs.source.var_var.Goals as goal
 
 pub returns-then-left-lt3 : goal.returns-then-left-lt3
-returns-then-left-lt3 c = (c.cut.ensures ∙ short _ _ _ _ (omega arith), rw c.cut.ensures tt)
+returns-then-left-lt3 c = (ap Err c.cut.ensures ∙ short _ _ _ _ (omega arith), tt)
 
 pub returns-then-above : goal.returns-then-above
 returns-then-above c =
     let high = is-above _ 1 (sym c.above.ensures ∙ c.if-above.true) in
-    (c.misnamed.ensures ∙ over_first _ _ c.named-s.ensures 1 _ _ (omega arith) high, rw c.misnamed.ensures tt)
+    (ap Err c.misnamed.ensures ∙ over_first _ _ c.named-s.ensures 1 _ _ (omega arith) high, tt)
 
 pub value-requires : goal.value-requires
 value-requires c = omega (arith, not-above _ 1 (sym c.above.ensures ∙ c.if-above.false))
