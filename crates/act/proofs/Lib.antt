@@ -1,5 +1,4 @@
 -- What the proofs of act's functions cite.
-pub mod ValueLaws
 pub mod ConditionLaws
 pub mod JumpLaws
 pub mod CallLaws

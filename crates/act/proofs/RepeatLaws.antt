@@ -1,111 +1,87 @@
 -- What the count and the open repeats tell of the rules of RPT and ERPT.
-use Prim.Native.Nat.{ℕ, suc, ◌+◌, ◌-◌, ◌<◌, ◌≤◌}
-use mathlib.Core.Path.{◌≡◌, refl, sym, ap, ◌∙◌}
-use mathlib.Core.Bool.{Bool, true, false, ◌&&◌, and-false}
-use mathlib.Core.List.{List, [], ◌∷◌, ◌++◌}
-use native.Mathlib.Omega.{arith}
-use native.Mathlib.Numerals.{add-one}
+use Rattle.std.proofs.Common.{◌≡◌, ℕ, suc, ◌+◌, ◌-◌, ◌<◌, ◌≤◌, Bool, true, false, ◌&&◌, List, [], ◌∷◌, ◌++◌, length, take, Some, None, Ok, refl, sym, ap, ◌∙◌, add-one, arith}
+use mathlib.Core.Bool.{and-false}
+use mathlib.Core.Logic.{◌⊎◌, inl, inr}
 use borrow.Author.Tests.{le-leb, lt-leb, lt-ltb, le-ltb, eq-eqb, ne_eqb}
 use lib.Dec.{leb}
-use lib.ListN.{take, set, get_or}
+use lib.ListN.{set, get_or}
 use Rattle.numbers.specs.declared.place.WordIndex.{WordIndex}
-use Rattle.player.specs.declared.Upshot.{Upshot}
-use Rattle.player.specs.declared.Upshot.TheVariants.{Quiet}
-use Rattle.rules.specs.declared.opcode.Operands.{Operands}
+use Rattle.raster.specs.declared.frame.Bounds.{Bounds}
+use Rattle.rules.specs.declared.environment.Registers.{Registers}
 use Rattle.rules.specs.declared.environment.Repeat.{Repeat}
+use Rattle.rules.specs.declared.opcode.Operands.{Operands}
 use Rattle.rules.specs.Op as Op
-use Rattle.rules.specs.Environment.{repeat, over, firsts, goto}
+use Rattle.rules.specs.Environment.{Env, repeat, over, firsts, goto}
 use Rattle.rules.specs.Opcodes.{rule, countable}
 use Rattle.rules.proofs.StackLaws.{length-firsts, push, pop, each}
-use Rattle.lent.specs.Lent.{nesting, repeats, Recelled, Nested}
-use Rattle.lent.specs.Shown.{does}
-use Rattle.lent.specs.Leaves.{HaltsHere, Stacks, Stacked}
-use Rattle.lent.proofs.Acting.{halts, paints-nothing}
-use Rattle.lent.proofs.Handing.{settled}
-use Rattle.lent.proofs.StackLaws.{repeat-fits}
+use Rattle.lent.specs.declared.Stack.{Stack}
+use Rattle.lent.specs.Lent.{look}
+use Rattle.lent.specs.Shown.{seen, does}
+use Rattle.lent.proofs.Acting.{lowest, quiet}
 
 -- ---- a count of passes
-pub none : (k : ℕ) → k ≡ 0 → countable k ≡ false
-none k h = ap countable h
-
-pub many : (k : ℕ) → 1000 < k → countable k ≡ false
-many k h = ap (λ (t : Bool). leb 1 k && t) (lt-leb k 1000 h) ∙ and-false (leb 1 k)
+pub uncountable : (k : ℕ) → (k ≡ 0) ⊎ ((k ≡ 0 → ⊥) × (1000 < k)) → countable k ≡ false
+uncountable k (inl h) = ap countable h
+uncountable k (inr h) = ap (λ (t : Bool). leb 1 k && t) (lt-leb k 1000 h.1) ∙ and-false (leb 1 k)
 
 pub some : (k : ℕ) → (k ≡ 0 → ⊥) → k ≤ 1000 → countable k ≡ true
 some k h l = let least : 1 ≤ k = omega (arith, h) in rw (le-leb 1 k least, le-leb k 1000 l)
 
--- ---- the rules of RPT and ERPT in a list of n words; d is how many repeats are open
-module _ (o : Operands) (n : ℕ) (next : WordIndex) {cs st : List ℕ} (pre : Stacked cs st) where
-  pub open-24 : countable o.a ≡ false → {u : Upshot} {cs' : List ℕ} → HaltsHere 24 u cs cs' → Stacks u (does (rule Op.Repeat o n) next) cs cs' st st
-  open-24 c h =
-      record { cells = h.1.full; stack = pre.stack; tells = λ b ps vs s. halts 24 (omega arith) (rule Op.Repeat o n) next h b ps vs st s (rw c) }
+module _ (b : Bounds) (r : Registers) (vs : List ℕ) (st : Stack) (next : WordIndex) (o : Operands) (n : ℕ) where
+  abbrev e : Env
+  e = look b r vs st
 
-  module _ {d : ℕ} (is : d ≡ nesting st) where
-    module _ (c : countable o.a ≡ true) where
-      pub open-28 : 8 ≤ d → {u : Upshot} {cs' : List ℕ} → HaltsHere 28 u cs cs' → Stacks u (does (rule Op.Repeat o n) next) cs cs' st st
-      open-28 l h =
-          record {
-            cells = h.1.full;
-            stack = pre.stack;
-            tells = λ b ps vs s. halts 28 (omega arith) (rule Op.Repeat o n) next h b ps vs st s (rw (c, ← is, length-firsts over d (repeats st), le-leb 8 d l));
-          }
+  -- ---- RPT, in a list of n words
+  pub not-countable : countable o.a ≡ false → lowest (rule Op.Repeat o n (goto next e)) ≡ Some 24
+  not-countable c = rw c refl
 
-      -- the block begins at the next opcode
-      pub opens : d < 8 → {u : Upshot} {cs' st' : List ℕ} → Nested (d + 1) (set (repeats st) d (repeat next o.a)) st st' → (u ≡ Quiet) × Recelled (goto next) cs cs'
-          → Stacks u (does (rule Op.Repeat o n) next) cs cs' st st'
-      opens h {st' = st'} p g =
-          record {
-            cells = g.1.full;
-            stack = p.full;
-            tells = λ b ps vs s.
-                paints-nothing _ _ _ s (rw (c, ← is, length-firsts over d (repeats st), lt-leb 8 d h)) refl
-                (rw (← is, ← push over d (repeat next o.a) (repeats st) (repeat-fits st pre.stack d h), ← add-one d)
-                (settled s g.0 (g.1.shows b ps vs st' ∙ ap (goto next) (p.shows b cs ps vs))));
-          }
+  module _ (c : countable o.a ≡ true) where
+    pub eight-open : 8 ≤ st.nesting → lowest (rule Op.Repeat o n (goto next e)) ≡ Some 28
+    eight-open l = rw (c, length-firsts over st.nesting st.repeats, le-leb 8 st.nesting l) refl
 
-    pub pass-29 : d ≡ 0 → {u : Upshot} {cs' : List ℕ} → HaltsHere 29 u cs cs' → Stacks u (does (rule Op.EndRepeat o n) next) cs cs' st st
-    pass-29 z h =
-        record {
-          cells = h.1.full;
-          stack = pre.stack;
-          tells = λ b ps vs s. halts 29 (omega arith) (rule Op.EndRepeat o n) next h b ps vs st s (rw (← is, length-firsts over d (repeats st), eq-eqb d 0 z));
-        }
+    -- the block begins at the next opcode
+    pub opens : length st.repeats ≡ 8 → st.nesting < 8
+        → seen (Ok None) (look b (record r { counter = next }) vs (record st { nesting = st.nesting + 1; repeats = set st.repeats st.nesting (repeat next o.a) }))
+        ≡ does (rule Op.Repeat o n) next e
+    opens full h =
+        let stacked_as : firsts over (st.nesting + 1) (set st.repeats st.nesting (repeat next o.a)) ≡ firsts over st.nesting st.repeats ++ (repeat next o.a ∷ [])
+        = rw add-one (push over st.nesting (repeat next o.a) st.repeats (omega (arith, h, full))) in
+        quiet (rule Op.Repeat o n) next e (rw (c, length-firsts over st.nesting st.repeats, lt-leb 8 st.nesting h) refl) (rw stacked_as refl) refl refl refl
 
-    -- the innermost repeat is r
-    module _ (h : d ≡ 0 → ⊥) {r : Repeat} (at : r ≡ get_or (repeats st) (d - 1) over) where
-      above : suc (d - 1) ≡ d
-      above = omega (arith, h)
+  -- ---- ERPT
+  pub none-open : st.nesting ≡ 0 → lowest (rule Op.EndRepeat o n (goto next e)) ≡ Some 29
+  none-open z = rw (length-firsts over st.nesting st.repeats, eq-eqb st.nesting 0 z) refl
 
-      closed-as : take (d - 1) (firsts over d (repeats st)) ≡ firsts over (d - 1) (repeats st)
-      closed-as = rw above at (pop over (d - 1) (repeats st))
+  module _ (h : st.nesting ≡ 0 → ⊥) where
+    abbrev innermost : Repeat
+    innermost = get_or st.repeats (st.nesting - 1) over
 
-      innermost-is : get_or (firsts over d (repeats st)) (d - 1) over ≡ r
-      innermost-is = each over d (d - 1) (repeats st) (omega (arith, h)) ∙ sym at
+    above : suc (st.nesting - 1) ≡ st.nesting
+    above = omega (arith, h)
 
-      pub closes : r.left ≤ 1 → {u : Upshot} {cs' st' : List ℕ} → Nested (d - 1) (repeats st) st st' → (u ≡ Quiet) × Recelled (goto next) cs cs'
-          → Stacks u (does (rule Op.EndRepeat o n) next) cs cs' st st'
-      closes l {st' = st'} p g =
-          record {
-            cells = g.1.full;
-            stack = p.full;
-            tells = λ b ps vs s.
-                paints-nothing _ _ _ s (rw (← is, length-firsts over d (repeats st), ne_eqb d 0 h)) (rw (← is, length-firsts over d (repeats st), innermost-is, le-ltb 1 r.left l))
-                (rw (← is, length-firsts over d (repeats st), innermost-is, le-ltb 1 r.left l, closed-as)
-                (settled s g.0 (g.1.shows b ps vs st' ∙ ap (goto next) (p.shows b cs ps vs))));
-          }
+    closed-as : take (st.nesting - 1) (firsts over st.nesting st.repeats) ≡ firsts over (st.nesting - 1) st.repeats
+    closed-as = rw above at (pop over (st.nesting - 1) st.repeats)
 
-      again-as : firsts over (d - 1) (repeats st) ++ (repeat r.start (r.left - 1) ∷ []) ≡ firsts over d (set (repeats st) (d - 1) (repeat r.start (r.left - 1)))
-      again-as = let below : d - 1 < 8 = omega (arith, h, is, pre.nested) in
-          rw above at (sym (push over (d - 1) (repeat r.start (r.left - 1)) (repeats st) (repeat-fits st pre.stack (d - 1) below)))
+    innermost-is : get_or (firsts over st.nesting st.repeats) (st.nesting - 1) over ≡ innermost
+    innermost-is = each over st.nesting (st.nesting - 1) st.repeats (omega (arith, h))
 
-      pub goes_back : 1 < r.left → {u : Upshot} {cs' st' : List ℕ} → Nested d (set (repeats st) (d - 1) (repeat r.start (r.left - 1))) st st' → (u ≡ Quiet) × Recelled (goto r.start) cs cs'
-          → Stacks u (does (rule Op.EndRepeat o n) next) cs cs' st st'
-      goes_back l {st' = st'} p g =
-          record {
-            cells = g.1.full;
-            stack = p.full;
-            tells = λ b ps vs s.
-                paints-nothing _ _ _ s (rw (← is, length-firsts over d (repeats st), ne_eqb d 0 h)) (rw (← is, length-firsts over d (repeats st), innermost-is, lt-ltb 1 r.left l))
-                (rw (← is, length-firsts over d (repeats st), innermost-is, lt-ltb 1 r.left l, closed-as, again-as)
-                (settled s g.0 (g.1.shows b ps vs st' ∙ ap (goto r.start) (p.shows b cs ps vs))));
-          }
+    -- with no pass left the block is closed
+    pub closes : innermost.left ≤ 1
+        → seen (Ok None) (look b (record r { counter = next }) vs (record st { nesting = st.nesting - 1 })) ≡ does (rule Op.EndRepeat o n) next e
+    closes l =
+        quiet (rule Op.EndRepeat o n) next e (rw (length-firsts over st.nesting st.repeats, ne_eqb st.nesting 0 h) refl)
+        (rw (length-firsts over st.nesting st.repeats, innermost-is, le-ltb 1 innermost.left l, closed-as) refl) refl
+        (rw (length-firsts over st.nesting st.repeats, innermost-is, le-ltb 1 innermost.left l) refl) refl
+
+    -- else the list goes back to its start
+    pub goes_back : length st.repeats ≡ 8 → st.nesting ≤ 8 → 1 < innermost.left
+        → let again = repeat innermost.start (innermost.left - 1) in
+        seen (Ok None) (look b (record r { counter = innermost.start }) vs (record st { repeats = set st.repeats (st.nesting - 1) again }))
+        ≡ does (rule Op.EndRepeat o n) next e
+    goes_back full nested l =
+        let again = repeat innermost.start (innermost.left - 1) in
+        let stacked_as : firsts over st.nesting (set st.repeats (st.nesting - 1) again) ≡ firsts over (st.nesting - 1) st.repeats ++ (again ∷ [])
+        = rw above at (push over (st.nesting - 1) again st.repeats (omega (arith, h, full, nested))) in
+        quiet (rule Op.EndRepeat o n) next e (rw (length-firsts over st.nesting st.repeats, ne_eqb st.nesting 0 h) refl)
+        (rw (length-firsts over st.nesting st.repeats, innermost-is, lt-ltb 1 innermost.left l, closed-as, stacked_as) refl) refl
+        (rw (length-firsts over st.nesting st.repeats, innermost-is, lt-ltb 1 innermost.left l) refl) refl

@@ -1,4 +1,4 @@
 -- What the contracts of act cite.
 pub mod Conditions
-pub mod Aims
+pub mod Targets
 pub mod Calculations

@@ -1,11 +1,12 @@
 // Jumps, calls, returns and the end of the list.
-ghost use Rattle.std.specs.Prelude.{◌≡◌, ℕ};
+ghost use Rattle.std.specs.Prelude.{◌≡◌, ℕ, Option};
+ghost use Rattle.numbers.specs.declared.place.WordIndex.{WordIndex as Index};
 ghost use Rattle.rules.specs.Op as Op;
 ghost use Rattle.rules.specs.Environment.{Env, goto};
 ghost use Rattle.rules.specs.Opcodes.{jumps, calls, rule};
 ghost use Rattle.lent.specs.Shown.{does};
 ghost use Rattle.lent.specs.Leaves.{Goes, Stacks, Stacked};
-ghost use Rattle.act.specs.Aims as Aims;
+ghost use Rattle.act.specs.Targets.{Targets};
 ghost use Rattle.act.specs.Conditions as Conditions;
 
 use fetch::source::Fetched;
@@ -32,31 +33,20 @@ fn is_met(k: u32, first: u32, second: u32) -> Option<bool>
     }
 }
 
-// How a jump gives its target: its bit address, or the offset in words from the next opcode.
-#[derive(Clone, Copy)]
-enum Aim {
-    Address,
-    Offset,
-}
-
-// Where that is.
-fn aimed(aim: Aim, n: u32, next: WordIndex, count: u32) -> Option<WordIndex>
-    ensures { (e : Env) → result ≡ Aims.aimed aim n count (goto next e) }
-{
-    match aim {
-        Aim::Address => word_at(BitAddress(n), count),
-        Aim::Offset => word_from(next, n, count),
-    }
-}
-
 // A jump on condition k: one not taken does not look at its target.
-fn jump_to(k: u32, aim: Aim, n: u32, next: WordIndex, count: u32, registers: &mut Registers) -> Upshot
-    ensures { Goes result (does (λ e. jumps k (Aims.aimed aim n count e) e) next) registers.old registers.new }
+fn jump_to<F: FnOnce() -> Option<WordIndex>>(
+    k: u32,
+    target: F,
+    next: WordIndex,
+    registers: &mut Registers,
+) -> Upshot
+    requires { F.pre target }
+    ensures { (T : Env → Option Index) → Targets (F.post target) T next
+        → Goes result (does (λ e. jumps k (T e) e) next) registers.old registers.new }
 {
     let met = is_met(k, registers.first, registers.second);
     if met.ok_or(registers.refused(Refusal::NotAllowed))? {
-        let target = aimed(aim, n, next, count);
-        registers.counter = target.ok_or(registers.refused(Refusal::NoTarget))?;
+        registers.counter = target().ok_or(registers.refused(Refusal::NoTarget))?;
     } else {
         registers.counter = next;
     }
@@ -68,7 +58,7 @@ pub fn jump(f: Fetched, count: u32, registers: &mut Registers) -> Upshot
     ensures { Goes result (does (λ e. rule Op.Jump f.operands count e) f.next) registers.old registers.new }
 {
     let o = f.operands;
-    jump_to(o.a, Aim::Address, o.b, f.next, count, registers)
+    jump_to(o.a, || word_at(BitAddress(o.b), count), f.next, registers)
 }
 
 // a: the condition; b: the offset in words.
@@ -76,11 +66,16 @@ pub fn jump_by(f: Fetched, count: u32, registers: &mut Registers) -> Upshot
     ensures { Goes result (does (λ e. rule Op.JumpBy f.operands count e) f.next) registers.old registers.new }
 {
     let o = f.operands;
-    jump_to(o.a, Aim::Offset, o.b, f.next, count, registers)
+    jump_to(o.a, || word_from(f.next, o.b, count), f.next, registers)
 }
 
 // A call: the return index is the next opcode's.
-fn call_to(target: Option<WordIndex>, next: WordIndex, registers: &mut Registers, stack: &mut Stack) -> Upshot
+fn call_to(
+    target: Option<WordIndex>,
+    next: WordIndex,
+    registers: &mut Registers,
+    stack: &mut Stack,
+) -> Upshot
     requires { Stacked registers.old stack.old }
     ensures { Stacks result (does (calls target) next) registers.old registers.new stack.old stack.new }
 {

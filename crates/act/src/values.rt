@@ -3,8 +3,8 @@ ghost use Rattle.std.specs.Prelude.{◌≡◌, ℕ, ◌<◌};
 ghost use Rattle.rules.specs.Operands.{at};
 ghost use Rattle.rules.specs.Op as Op;
 ghost use Rattle.rules.specs.Opcodes.{gives, rule};
-ghost use Rattle.act.specs.Calculations as Calculations;
-ghost use Rattle.act.specs.Calculations.{op_of};
+ghost use Rattle.rules.specs.Opcodes as Opcodes;
+ghost use Rattle.act.specs.Calculations.{Makes};
 ghost use Rattle.lent.specs.Shown.{does};
 ghost use Rattle.lent.specs.Leaves.{Sets};
 
@@ -41,37 +41,26 @@ pub fn load(f: Fetched, registers: &mut Registers, variables: &mut [u32; 64]) ->
     put(f, f.operands.a, registers, variables)
 }
 
-// What is made of Vd's value and the operand.
-#[derive(Clone, Copy)]
-enum Calculation {
-    Sum,
-    And,
-    Or,
-    Product,
-    OneMore,
-    OneLess,
-}
-
-fn calculated(c: Calculation, old: u32, a: u32) -> u32
-    ensures { result ≡ Calculations.calculated c old a }
-{
-    match c {
-        Calculation::Sum => arith::add(old, a),
-        Calculation::And => arith::and(old, a),
-        Calculation::Or => arith::or(old, a),
-        Calculation::Product => arith::mul(old, a),
-        Calculation::OneMore => arith::inc(old),
-        Calculation::OneLess => arith::dec(old),
-    }
-}
-
-fn calculate(c: Calculation, f: Fetched, registers: &mut Registers, variables: &mut [u32; 64]) -> Upshot
-    requires { f.operands.dest.0 < 64 }
-    ensures { (n : ℕ) → Sets result (does (λ e. rule (op_of c) f.operands n e) f.next)
+// What a calculation makes of Vd's value and the operand, into Vd.
+fn calculate<F: FnOnce(u32, u32) -> u32>(
+    calculation: F,
+    f: Fetched,
+    registers: &mut Registers,
+    variables: &mut [u32; 64],
+) -> Upshot
+    requires dest { f.operands.dest.0 < 64 }
+    requires callable { F.IsAlwaysCallable calculation }
+    ensures { (g : ℕ → ℕ → ℕ) → Makes (F.post calculation) g f.operands.a
+        → Sets result (does (λ e. gives (g (Opcodes.old f.operands e) f.operands.a) f.operands e) f.next)
         registers.old registers.new variables.old variables.new }
 {
     let o = f.operands;
-    put(f, calculated(c, old(o, &*variables), o.a), registers, variables)
+    put(
+        f,
+        calculation(old(o, &*variables), o.a),
+        registers,
+        variables,
+    )
 }
 
 pub fn add(f: Fetched, registers: &mut Registers, variables: &mut [u32; 64]) -> Upshot
@@ -79,7 +68,7 @@ pub fn add(f: Fetched, registers: &mut Registers, variables: &mut [u32; 64]) -> 
     ensures { (n : ℕ) → Sets result (does (λ e. rule Op.Add f.operands n e) f.next)
         registers.old registers.new variables.old variables.new }
 {
-    calculate(Calculation::Sum, f, registers, variables)
+    calculate(arith::add, f, registers, variables)
 }
 
 pub fn and(f: Fetched, registers: &mut Registers, variables: &mut [u32; 64]) -> Upshot
@@ -87,7 +76,7 @@ pub fn and(f: Fetched, registers: &mut Registers, variables: &mut [u32; 64]) -> 
     ensures { (n : ℕ) → Sets result (does (λ e. rule Op.And f.operands n e) f.next)
         registers.old registers.new variables.old variables.new }
 {
-    calculate(Calculation::And, f, registers, variables)
+    calculate(arith::and, f, registers, variables)
 }
 
 pub fn or(f: Fetched, registers: &mut Registers, variables: &mut [u32; 64]) -> Upshot
@@ -95,7 +84,7 @@ pub fn or(f: Fetched, registers: &mut Registers, variables: &mut [u32; 64]) -> U
     ensures { (n : ℕ) → Sets result (does (λ e. rule Op.Or f.operands n e) f.next)
         registers.old registers.new variables.old variables.new }
 {
-    calculate(Calculation::Or, f, registers, variables)
+    calculate(arith::or, f, registers, variables)
 }
 
 pub fn multiply(f: Fetched, registers: &mut Registers, variables: &mut [u32; 64]) -> Upshot
@@ -103,7 +92,7 @@ pub fn multiply(f: Fetched, registers: &mut Registers, variables: &mut [u32; 64]
     ensures { (n : ℕ) → Sets result (does (λ e. rule Op.Multiply f.operands n e) f.next)
         registers.old registers.new variables.old variables.new }
 {
-    calculate(Calculation::Product, f, registers, variables)
+    calculate(arith::mul, f, registers, variables)
 }
 
 pub fn increment(f: Fetched, registers: &mut Registers, variables: &mut [u32; 64]) -> Upshot
@@ -111,7 +100,7 @@ pub fn increment(f: Fetched, registers: &mut Registers, variables: &mut [u32; 64
     ensures { (n : ℕ) → Sets result (does (λ e. rule Op.Increment f.operands n e) f.next)
         registers.old registers.new variables.old variables.new }
 {
-    calculate(Calculation::OneMore, f, registers, variables)
+    calculate(|old, _| arith::inc(old), f, registers, variables)
 }
 
 pub fn decrement(f: Fetched, registers: &mut Registers, variables: &mut [u32; 64]) -> Upshot
@@ -119,7 +108,7 @@ pub fn decrement(f: Fetched, registers: &mut Registers, variables: &mut [u32; 64
     ensures { (n : ℕ) → Sets result (does (λ e. rule Op.Decrement f.operands n e) f.next)
         registers.old registers.new variables.old variables.new }
 {
-    calculate(Calculation::OneLess, f, registers, variables)
+    calculate(|old, _| arith::dec(old), f, registers, variables)
 }
 
 pub fn divide(f: Fetched, registers: &mut Registers, variables: &mut [u32; 64]) -> Upshot
@@ -129,7 +118,12 @@ pub fn divide(f: Fetched, registers: &mut Registers, variables: &mut [u32; 64]) 
 {
     let o = f.operands;
     let quotient = arith::quotient(old(o, &*variables), o.a);
-    put(f, quotient.ok_or(registers.refused(Refusal::ByZero))?, registers, variables)
+    put(
+        f,
+        quotient.ok_or(registers.refused(Refusal::ByZero))?,
+        registers,
+        variables,
+    )
 }
 
 pub fn remainder(f: Fetched, registers: &mut Registers, variables: &mut [u32; 64]) -> Upshot
@@ -139,7 +133,12 @@ pub fn remainder(f: Fetched, registers: &mut Registers, variables: &mut [u32; 64
 {
     let o = f.operands;
     let remainder = arith::remainder(old(o, &*variables), o.a);
-    put(f, remainder.ok_or(registers.refused(Refusal::ByZero))?, registers, variables)
+    put(
+        f,
+        remainder.ok_or(registers.refused(Refusal::ByZero))?,
+        registers,
+        variables,
+    )
 }
 
 // Vd's value is kept first, the other second.

@@ -1,6 +1,8 @@
 -- What every op shares: carrying out goes by the lowest of 24 to 29 that the rule breaks, whatever the rule.
-use Rattle.std.proofs.Common.{◌≡◌, ℕ, Bool, true, false, ◌&&◌, Option, Some, None, Ok, Err, refl, sym, ap, ◌∙◌}
-use mathlib.Core.Bool.{cond}
+use Rattle.std.proofs.Common.{◌≡◌, ℕ, Bool, true, false, ◌&&◌, Option, Some, None, Result, Ok, Err, refl, sym, ap, ◌∙◌}
+use mathlib.Core.Bool.{cond, true≢false}
+use Rattle.std.specs.Result.{IsErr, IsErrAnd}
+use Rattle.std.specs.Option.{ok_or}
 use Rattle.raster.specs.declared.frame.Frame.{Frame}
 use Rattle.raster.specs.Shapes.{Shape}
 use Rattle.raster.specs.Frame.{drawable}
@@ -88,3 +90,11 @@ module _ (rule : Env → Rule) (next : WordIndex) (e : Env) where
         (rw (is, env, bounds)
         (ap (λ (d : Shape). went r.env (record { bounds = e.bounds; dots = d; colour = 0 })) (sym (no-dots (frame e)))
         ∙ ap (λ (y : Painting). went r.env (marks y)) (sym empty)))
+
+-- what a `?` hands back where there is none, of what it was asked for with the refusal w
+pub lacking : {A : Type 0} {o : Option A} {v w : Verdict} {u : Upshot} → IsErr u × IsErrAnd u (λ (x : Verdict). x ≡ v) → Err v ≡ ok_or o w → o ≡ None → u ≡ Err w
+lacking {u = Ok x} h e n = absurd (true≢false (sym h.0))
+lacking {A} {v = v} {w = w} {u = Err x} h e n =
+    let made : ◌≡◌ {A = Result A Verdict} (Err v) (Err w) = rw n at e in
+    let same : v ≡ w = cc in
+    ap Err (h.1 ∙ same)

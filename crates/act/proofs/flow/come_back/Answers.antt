@@ -1,9 +1,13 @@
--- `come_back`: back, whatever was got.
-use Rattle.lent.proofs.Handing.{passed-stacks, got-stacks}
+-- `come_back`: none is stacked, or the last one is taken.
+use Rattle.std.proofs.Common.{refl}
+use Rattle.lent.proofs.Acting.{halts}
+use Rattle.act.proofs.CallLaws.{none-stacked, came-back}
 use Rattle.act.proofs.flow.come_back.Goals as goal
 
-pub returns-in-Refused : goal.returns-in-Refused
-returns-in-Refused c n = passed-stacks _ c.in-Refused.is c.stop.ensures c.requires.stack
+pub returns-then-depth-eq0 : goal.returns-then-depth-eq0
+returns-then-depth-eq0 c n b vs =
+    let g = c.args in
+    halts _ _ _ refl c.refused.ensures (none-stacked b g.registers.now vs g.stack.now g.f.next g.f.operands n c.if-depth-eq0.true)
 
-pub returns-in-Got : goal.returns-in-Got
-returns-in-Got c n = got-stacks _ c.in-Got.is (c.back.ensures c.in-Got.field-0 n c.in-Got.field-1)
+pub returns : goal.returns
+returns c n b vs = let g = c.args in came-back b g.registers.now vs g.stack.now g.f.next g.f.operands n c.if-depth-eq0.false

@@ -1,9 +1,7 @@
--- `jump`: the target is given by its address.
-use Rattle.lent.proofs.Handing.{passed-goes, got-goes}
+-- `jump`: the target is given by its bit address.
+use Rattle.std.proofs.Common.{rules}
+use Rattle.rules.specs.Opcodes.{absolute}
 use Rattle.act.proofs.flow.jump.Goals as goal
 
-pub returns-in-Refused : goal.returns-in-Refused
-returns-in-Refused c = passed-goes _ c.in-Refused.is c.stop.ensures
-
-pub returns-in-Got : goal.returns-in-Got
-returns-in-Got c = got-goes _ c.in-Got.is c.jump_to.ensures
+pub returns : goal.returns
+returns c = c.jump_to.ensures (λ e. absolute c.args.f.operands.b c.args.count) (λ t p e. search rules)

@@ -1,9 +1,7 @@
--- `jump_by`: the target is given by an offset.
-use Rattle.lent.proofs.Handing.{passed-goes, got-goes}
+-- `jump_by`: the target is given by its offset.
+use Rattle.std.proofs.Common.{rules}
+use Rattle.rules.specs.Opcodes.{relative}
 use Rattle.act.proofs.flow.jump_by.Goals as goal
 
-pub returns-in-Refused : goal.returns-in-Refused
-returns-in-Refused c = passed-goes _ c.in-Refused.is c.stop.ensures
-
-pub returns-in-Got : goal.returns-in-Got
-returns-in-Got c = got-goes _ c.in-Got.is c.jump_to.ensures
+pub returns : goal.returns
+returns c = c.jump_to.ensures (λ e. relative c.args.f.operands.b e c.args.count) (λ t p e. search rules)

@@ -1,27 +1,37 @@
--- `jump_to`: the condition is asked first, and the target only where it holds.
-use mathlib.Core.Path.{sym, ◌∙◌}
-use Rattle.act.specs.Aims.{aimed}
-use Rattle.act.proofs.JumpLaws.{jump-24, jump-27, jump-no, jump-at}
+-- `jump_to`: the condition is asked first, and the target only where it is met.
+use Rattle.std.proofs.Common.{sym, ◌∙◌}
+use Rattle.lent.specs.Lent.{look}
+use Rattle.lent.proofs.Acting.{halts, lacking}
+use Rattle.act.proofs.ConditionLaws.{none-allowed, some-met}
+use Rattle.act.proofs.JumpLaws.{no-condition, no-target, taken, not-taken}
 use Rattle.act.proofs.flow.jump_to.Goals as goal
 
-pub returns-in-NotAllowed : goal.returns-in-NotAllowed
-returns-in-NotAllowed c =
-    let g = c.args in
-    jump-24 _ (aimed g.aim g.n g.count) g.next _ c.first.ensures c.second.ensures c.condition_of-c.ensures c.in-NotAllowed.is c.refuse.ensures
+pub returns-in_err-ok_or : goal.returns-in_err-ok_or
+returns-in_err-ok_or g c T is b vs st =
+    let a = c.args in
+    let r = a.registers.now in
+    let none = c.in_err-ok_or.ensures in
+    halts _ _ _ (lacking c.from_residual.ensures none.value none.ok_part) c.refused.ensures
+    (no-condition b r vs st a.next a.k T (none-allowed a.k r.first r.second (sym c.is_met-met.ensures ∙ none.ok_part)))
 
-pub returns-in-Unmet : goal.returns-in-Unmet
-returns-in-Unmet c =
-    let g = c.args in
-    jump-no _ (aimed g.aim g.n g.count) _ _ c.first.ensures c.second.ensures c.condition_of-c.ensures c.in-Unmet.is c.finish.ensures
+pub returns-in_err-registers : goal.returns-in_err-registers
+returns-in_err-registers g c T is b vs st =
+    let a = c.args in
+    let r = a.registers.now in
+    let none = c.in_err-registers.ensures in
+    halts _ _ _ (lacking c.from_residual-in_err-registers.ensures none.value none.ok_part) c.refused-then-branch.ensures
+    (no-target b r vs st a.next a.k T (some-met a.k r.first r.second (sym c.is_met-met.ensures ∙ c.in_ok-ok_or.ensures.ok_part)) c.if-branch.true
+    (sym (is _ c.target.ensures (look b r vs st)) ∙ none.ok_part))
 
-pub returns-in-Refused : goal.returns-in-Refused
-returns-in-Refused c =
-    let g = c.args in
-    jump-27 _ (aimed g.aim g.n g.count) g.next _ c.first.ensures c.second.ensures c.condition_of-c.ensures
-    c.in-Met.is (λ e. sym (c.aimed-t.ensures e) ∙ c.in-Refused.is) c.refuse-in-Refused.ensures
+pub returns-in_ok-registers : goal.returns-in_ok-registers
+returns-in_ok-registers g c T is b vs st =
+    let a = c.args in
+    let r = a.registers.now in
+    taken b r vs st a.next a.k T (some-met a.k r.first r.second (sym c.is_met-met.ensures ∙ c.in_ok-ok_or.ensures.ok_part)) c.if-branch.true
+    (sym (is _ c.target.ensures (look b r vs st)) ∙ c.in_ok-registers.ensures.ok_part)
 
-pub returns-in-At : goal.returns-in-At
-returns-in-At c =
-    let g = c.args in
-    jump-at _ (aimed g.aim g.n g.count) g.next _ c.first.ensures c.second.ensures c.condition_of-c.ensures
-    c.in-Met.is (λ e. sym (c.aimed-t.ensures e) ∙ c.in-At.is) c.finish-in-At.ensures
+pub returns-else-branch : goal.returns-else-branch
+returns-else-branch g c T is b vs st =
+    let a = c.args in
+    let r = a.registers.now in
+    not-taken b r vs st a.next a.k T (some-met a.k r.first r.second (sym c.is_met-met.ensures ∙ c.in_ok-ok_or.ensures.ok_part)) c.if-branch.false

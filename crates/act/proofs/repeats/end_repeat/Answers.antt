@@ -1,9 +1,19 @@
--- `end_repeat`: a pass ends, whatever was got.
-use Rattle.lent.proofs.Handing.{passed-stacks, got-stacks}
+-- `end_repeat`: none is open, or one pass is taken off the innermost.
+use Rattle.std.proofs.Common.{rules, refl}
+use Rattle.lent.proofs.Acting.{halts}
+use Rattle.act.proofs.RepeatLaws.{none-open, closes, goes_back}
 use Rattle.act.proofs.repeats.end_repeat.Goals as goal
 
-pub returns-in-Refused : goal.returns-in-Refused
-returns-in-Refused c n = passed-stacks _ c.in-Refused.is c.stop.ensures c.requires.stack
+pub returns-then-open-eq0 : goal.returns-then-open-eq0
+returns-then-open-eq0 c n b vs =
+    let g = c.args in
+    halts _ _ _ refl c.refused.ensures (none-open b g.registers.now vs g.stack.now g.f.next g.f.operands n c.if-open-eq0.true)
 
-pub returns-in-Got : goal.returns-in-Got
-returns-in-Got c n = got-stacks _ c.in-Got.is (c.pass.ensures c.in-Got.field-0 n)
+pub returns-then-innermost-le1 : goal.returns-then-innermost-le1
+returns-then-innermost-le1 c n b vs =
+    let g = c.args in closes b g.registers.now vs g.stack.now g.f.next g.f.operands n c.if-open-eq0.false c.if-innermost-le1.true
+
+pub returns-else-innermost-le1 : goal.returns-else-innermost-le1
+returns-else-innermost-le1 c n b vs =
+    let g = c.args in
+    goes_back b g.registers.now vs g.stack.now g.f.next g.f.operands n c.if-open-eq0.false (search rules) c.requires.nested c.if-innermost-le1.false

@@ -1,9 +1,21 @@
--- `repeat`: a block begins, if its count was got.
-use Rattle.lent.proofs.Handing.{passed-stacks, got-stacks}
+-- `repeat`: the count is judged first, and then how many repeats are open.
+use Rattle.std.proofs.Common.{rules, refl}
+use Rattle.lent.proofs.Acting.{halts}
+use Rattle.act.proofs.RepeatLaws.{uncountable, some, not-countable, eight-open, opens}
 use Rattle.act.proofs.repeats.repeat.Goals as goal
 
-pub returns-in-Refused : goal.returns-in-Refused
-returns-in-Refused c n = passed-stacks _ c.in-Refused.is c.stop.ensures c.requires.stack
+pub returns-then-passes-eq0 : goal.returns-then-passes-eq0
+returns-then-passes-eq0 c n b vs =
+    let g = c.args in
+    halts _ _ _ refl c.refused.ensures (not-countable b g.registers.now vs g.stack.now g.f.next g.f.operands n (uncountable _ c.then-passes-eq0.either))
 
-pub returns-in-Got : goal.returns-in-Got
-returns-in-Got c n = got-stacks _ c.in-Got.is (c.begin.ensures n)
+pub returns-then-open-ge8 : goal.returns-then-open-ge8
+returns-then-open-ge8 c n b vs =
+    let g = c.args in
+    halts _ _ _ refl c.refused-then-open-ge8.ensures
+    (eight-open b g.registers.now vs g.stack.now g.f.next g.f.operands n (some _ c.if-passes-eq0.false c.if-passes-gt1000.false) c.if-open-ge8.true)
+
+pub returns : goal.returns
+returns c n b vs =
+    let g = c.args in
+    opens b g.registers.now vs g.stack.now g.f.next g.f.operands n (some _ c.if-passes-eq0.false c.if-passes-gt1000.false) (search rules) c.if-open-ge8.false

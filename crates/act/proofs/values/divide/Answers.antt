@@ -1,19 +1,26 @@
--- `divide`: the quotient is put, unless the divisor is zero.
+-- `divide`: refused where the divisor is zero, else the quotient is put.
+use Rattle.std.proofs.Common.{refl, sym, ap, ◌∙◌}
 use Rattle.numbers.specs.Number.{quotient32}
-use Rattle.lent.proofs.Handing.{passed-sets, got-sets, destined}
-use Rattle.act.proofs.ValueLaws.{divided}
+use Rattle.numbers.proofs.Division.{told-by-zero, told-gives}
+use Rattle.rules.specs.Op as Op
+use Rattle.rules.specs.Opcodes.{gives, old, rule}
+use Rattle.lent.specs.Lent.{look}
+use Rattle.lent.specs.Shown.{does}
+use Rattle.lent.proofs.Acting.{halts, lacking, past}
 use Rattle.act.proofs.values.divide.Goals as goal
 
-pub old-requires : goal.old-requires
-old-requires c = destined c.in-Got.is c.requires.0
+pub returns-in_err-ok_or : goal.returns-in_err-ok_or
+returns-in_err-ok_or c n b st =
+    let none = c.in_err-ok_or.ensures in
+    let zero = told-by-zero c.args.f.operands.a _ (sym c.quotient-quotient.ensures ∙ none.ok_part) in
+    halts _ _ _ (lacking c.from_residual.ensures none.value none.ok_part) c.refused.ensures (rw zero refl)
 
-pub put_unless_zero-requires : goal.put_unless_zero-requires
-put_unless_zero-requires c = (destined c.in-Got.is c.requires.0, c.requires.1)
-
-pub returns-in-Refused : goal.returns-in-Refused
-returns-in-Refused c n = passed-sets _ c.in-Refused.is c.stop.ensures
-
-pub returns-in-Got : goal.returns-in-Got
-returns-in-Got c n =
-    let o = c.in-Got.o in
-    got-sets _ c.in-Got.is (divided o _ c.old.ensures (λ x. quotient32 x o.a) (c.put_unless_zero.ensures _ c.quotient-x.ensures))
+pub returns : goal.returns
+unfolding does
+returns c n b st =
+    let g = c.args in
+    let o = g.f.operands in
+    let e = look b g.registers.now g.variables.now st in
+    let told = told-gives o.a _ _ (sym c.quotient-quotient.ensures ∙ c.in_ok-ok_or.ensures.ok_part) in
+    past (rule Op.Divide o n) g.f.next e (λ e. gives (quotient32 (old o e) o.a) o e) (rw told.0 refl) refl
+    (c.put.ensures b st ∙ ap (λ v. does (gives v o) g.f.next e) (told.1 ∙ ap (λ x. quotient32 x o.a) c.old.ensures))

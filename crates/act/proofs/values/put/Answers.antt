@@ -1,9 +1,7 @@
--- `put`: the store is what the rule says.
-use mathlib.Core.Path.{refl}
-use Rattle.lent.proofs.Acting.{paints-nothing}
-use Rattle.lent.proofs.Handing.{settled}
+-- `put`: Vd has the value.
+use Rattle.std.proofs.Common.{refl}
+use Rattle.lent.proofs.Acting.{quiet}
 use Rattle.act.proofs.values.put.Goals as goal
 
 pub returns : goal.returns
-returns c = let g = c.finish.ensures in
-    record { cells = g.1.full; tells = λ b ps st s. paints-nothing _ _ _ s refl refl (settled s g.0 (g.1.shows b ps _ st)) }
+returns c b st = quiet _ _ _ refl refl refl refl refl
