@@ -8,8 +8,7 @@ use borrow.Author.Tests.{le-leb, lt-leb, eq-eqb, ne_eqb}
 use lib.ListN.{set, get_or, length-set}
 use lib.IntN.{ℤ}
 use Rattle.numbers.specs.declared.place.WordIndex.{WordIndex}
-use Rattle.numbers.specs.declared.place.Target.{Target}
-use Rattle.numbers.specs.declared.place.Target.TheVariants.{At, Refused}
+use Rattle.std.specs.Prelude.{Some, None, Option}
 use Rattle.raster.specs.declared.frame.Bounds.{Bounds}
 use Rattle.player.specs.declared.Upshot.{Upshot}
 use Rattle.player.specs.declared.Upshot.TheVariants.{Quiet}
@@ -31,11 +30,11 @@ then_to : (n : ℕ) {i : WordIndex} (cs : List ℕ) {cs' cs'' : List ℕ} → De
 then_to n {i} cs p g b ps vs st = g.shows b ps vs st ∙ ap (goto i) (p.1 b ps vs st)
 
 -- ---- a call, and a return; d is the depth
-module _ (t : Target) (next : WordIndex) {cs st : List ℕ} (pre : Stacked cs st) where
-  pub call-27 : t ≡ Refused → {u : Upshot} {cs' : List ℕ} → HaltsHere 27 u cs cs' → Stacks u (does (calls t) next) cs cs' st st
+module _ (t : Option WordIndex) (next : WordIndex) {cs st : List ℕ} (pre : Stacked cs st) where
+  pub call-27 : t ≡ None → {u : Upshot} {cs' : List ℕ} → HaltsHere 27 u cs cs' → Stacks u (does (calls t) next) cs cs' st st
   call-27 m h = record { cells = h.1.full; stack = pre.stack; tells = λ b ps vs s. halts 27 (omega arith) (calls t) next h b ps vs st s (rw m) }
 
-  module _ {i : WordIndex} (m : t ≡ At i) {d : ℕ} (is : d ≡ (celled cs).depth) where
+  module _ {i : WordIndex} (m : t ≡ Some i) {d : ℕ} (is : d ≡ (celled cs).depth) where
     pub call-28 : 16 ≤ d → {u : Upshot} {cs' : List ℕ} → HaltsHere 28 u cs cs' → Stacks u (does (calls t) next) cs cs' st st
     call-28 l h =
         record {
@@ -57,7 +56,7 @@ module _ (t : Target) (next : WordIndex) {cs st : List ℕ} (pre : Stacked cs st
     })
 
 -- the target t is what T makes of the environment at the next opcode
-pub call-aimed : {t : Target} (next : WordIndex) (T : Env → Target) → ((e : Env) → t ≡ T (goto next e)) → {u : Upshot} {cs cs' st st' : List ℕ}
+pub call-aimed : {t : Option WordIndex} (next : WordIndex) (T : Env → Option WordIndex) → ((e : Env) → t ≡ T (goto next e)) → {u : Upshot} {cs cs' st st' : List ℕ}
     → Stacks u (does (calls t) next) cs cs' st st' → Stacks u (does (λ e. calls (T e) e) next) cs cs' st st'
 unfolding does
 call-aimed next T is p = record { cells = p.cells; stack = p.stack; tells = λ b ps vs s. rw (← is _) (p.tells b ps vs s) }

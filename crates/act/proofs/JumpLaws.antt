@@ -5,8 +5,7 @@ use mathlib.Core.Bool.{Bool, true, false, cond}
 use native.Mathlib.Omega.{arith}
 use mathlib.Core.List.{List}
 use Rattle.numbers.specs.declared.place.WordIndex.{WordIndex}
-use Rattle.numbers.specs.declared.place.Target.{Target}
-use Rattle.numbers.specs.declared.place.Target.TheVariants.{At, Refused}
+use Rattle.std.specs.Prelude.{Some, None, Option}
 use Rattle.numbers.specs.Number.{signed32}
 use Rattle.player.specs.declared.Upshot.{Upshot}
 use Rattle.player.specs.declared.Upshot.TheVariants.{Quiet}
@@ -38,7 +37,7 @@ judged k x y is p = rw (sym p ∙ is) (go (allowed k) (met k (signed32 x) (signe
     go false h p q = p
 
 -- c answers condition k on the cells' two values; T is where the target is, by the environment at the next opcode
-module _ (k : ℕ) (T : Env → Target) (next : WordIndex) (cs : List ℕ) {x y : ℕ} {c : Condition} (px : x ≡ (celled cs).first) (py : y ≡ (celled cs).second) (is : c ≡ condition_of k x y) where
+module _ (k : ℕ) (T : Env → Option WordIndex) (next : WordIndex) (cs : List ℕ) {x y : ℕ} {c : Condition} (px : x ≡ (celled cs).first) (py : y ≡ (celled cs).second) (is : c ≡ condition_of k x y) where
   abbrev jump : Env → Rule
   jump e = jumps k (T e) e
 
@@ -49,7 +48,7 @@ module _ (k : ℕ) (T : Env → Target) (next : WordIndex) (cs : List ℕ) {x y 
     pub jump-24 : c ≡ NotAllowed → HaltsHere 24 u cs cs' → Goes u (does jump next) cs cs'
     jump-24 p h = record { cells = h.1.full; tells = λ b ps vs st s. halts 24 (omega arith) jump next h b ps vs st s (rw (asked p)) }
 
-    pub jump-27 : c ≡ Met → ((e : Env) → T (goto next e) ≡ Refused) → HaltsHere 27 u cs cs' → Goes u (does jump next) cs cs'
+    pub jump-27 : c ≡ Met → ((e : Env) → T (goto next e) ≡ None) → HaltsHere 27 u cs cs' → Goes u (does jump next) cs cs'
     jump-27 p m h =
         let j = asked p in
         record { cells = h.1.full; tells = λ b ps vs st s. halts 27 (omega arith) jump next h b ps vs st s (rw (j.0, j.1, m (look b cs ps vs st))) }
@@ -59,7 +58,7 @@ module _ (k : ℕ) (T : Env → Target) (next : WordIndex) (cs : List ℕ) {x y 
         let j = asked p in
         record { cells = g.1.full; tells = λ b ps vs st s. paints-nothing _ _ _ s (rw (j.0, j.1)) refl (rw j.1 (settled s g.0 (g.1.shows b ps vs st))) }
 
-    pub jump-at : c ≡ Met → {i : WordIndex} → ((e : Env) → T (goto next e) ≡ At i) → (u ≡ Quiet) × Recelled (goto i) cs cs' → Goes u (does jump next) cs cs'
+    pub jump-at : c ≡ Met → {i : WordIndex} → ((e : Env) → T (goto next e) ≡ Some i) → (u ≡ Quiet) × Recelled (goto i) cs cs' → Goes u (does jump next) cs cs'
     jump-at p m g =
         let j = asked p in
         record {

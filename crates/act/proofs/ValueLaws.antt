@@ -4,8 +4,7 @@ use mathlib.Core.Path.{◌≡◌, sym, ◌∙◌}
 use native.Mathlib.Omega.{arith}
 use mathlib.Core.List.{List}
 use lib.Dec.{eqb}
-use Rattle.numbers.specs.declared.arith.Division.{Division}
-use Rattle.numbers.specs.declared.arith.Division.TheVariants.{Gives, ByZero}
+use Rattle.std.specs.Prelude.{Some, None, Option}
 use Rattle.numbers.specs.declared.place.WordIndex.{WordIndex}
 use Rattle.numbers.specs.Number.{unless_zero}
 use Rattle.numbers.proofs.Division.{told-by-zero, told-gives}
@@ -47,12 +46,12 @@ module _ (o : Operands) (next : WordIndex) {cs vs : List ℕ} where
     divided g s = of-old (λ x. divides (g x) o) s
 
   -- the answer x of a division that gives n
-  module _ (n : ℕ) {x : Division} (is : x ≡ unless_zero o.a n) where
-    pub by_zero : x ≡ ByZero → {u : Upshot} {cs' : List ℕ} → HaltsHere 26 u cs cs' → Sets u (does (divides n o) next) cs cs' vs vs
+  module _ (n : ℕ) {x : Option ℕ} (is : x ≡ unless_zero o.a n) where
+    pub by_zero : x ≡ None → {u : Upshot} {cs' : List ℕ} → HaltsHere 26 u cs cs' → Sets u (does (divides n o) next) cs cs' vs vs
     by_zero z h =
         record { cells = h.1.full; tells = λ b ps st s. halts 26 (omega arith) (divides n o) next h b ps vs st s (rw (told-by-zero o.a n (sym is ∙ z))) }
 
-    pub by-other : {u : Upshot} {v : ℕ} {cs' vs' : List ℕ} → x ≡ Gives v → Sets u (does (gives v o) next) cs cs' vs vs' → Sets u (does (divides n o) next) cs cs' vs vs'
+    pub by-other : {u : Upshot} {v : ℕ} {cs' vs' : List ℕ} → x ≡ Some v → Sets u (does (gives v o) next) cs cs' vs vs' → Sets u (does (divides n o) next) cs cs' vs vs'
     unfolding does carried
     by-other {v = v} g p =
         let t = told-gives o.a n v (sym is ∙ g) in

@@ -13,7 +13,7 @@ use fetch::source::Taken;
 use lent::registers::{Cells, depth, finish, first, refuse, second, set_depth, set_ended, stop};
 use lent::stack::{Stack, stack_at, stacked_at};
 use numbers::arith::{equal, less};
-use numbers::place::{BitAddress, Target, WordIndex, word_at, word_from};
+use numbers::place::{BitAddress, WordIndex, word_at, word_from};
 use player::Upshot;
 use rules::opcode::Operands;
 
@@ -54,7 +54,7 @@ enum Aim {
 }
 
 // Where that is.
-fn aimed(aim: Aim, n: u32, next: WordIndex, count: u32) -> Target
+fn aimed(aim: Aim, n: u32, next: WordIndex, count: u32) -> Option<WordIndex>
     ensures { (e : Env) → result ≡ Aims.aimed aim n count (goto next e) }
 {
     match aim {
@@ -75,8 +75,8 @@ fn jump_to(k: u32, aim: Aim, n: u32, next: WordIndex, count: u32, cells: &mut Ce
         Condition::Met => {
             let t = aimed(aim, n, next, count);
             match t {
-                Target::Refused => refuse(cells, 27),
-                Target::At(i) => finish(cells, i),
+                None => refuse(cells, 27),
+                Some(i) => finish(cells, i),
             }
         }
     }
@@ -105,13 +105,13 @@ pub fn jump_by(t: Taken, count: u32, cells: &mut Cells) -> Upshot
 }
 
 // A call: the return index is the next opcode's.
-fn call_to(t: Target, next: WordIndex, cells: &mut Cells, stack: &mut Stack) -> Upshot
+fn call_to(t: Option<WordIndex>, next: WordIndex, cells: &mut Cells, stack: &mut Stack) -> Upshot
     requires { Stacked cells.old stack.old }
     ensures { Stacks result (does (calls t) next) cells.old cells.new stack.old stack.new }
 {
     match t {
-        Target::Refused => refuse(cells, 27),
-        Target::At(i) => {
+        None => refuse(cells, 27),
+        Some(i) => {
             let d = depth(&*cells);
             if 16 <= d {
                 return refuse(cells, 28);

@@ -14,7 +14,6 @@ ghost use Rattle.lent.specs.Leaves.{Sets};
 use fetch::source::Taken;
 use lent::registers::{Cells, finish, keep_compared, refuse, stop};
 use numbers::arith;
-use numbers::arith::Division;
 use numbers::place::WordIndex;
 use player::Upshot;
 use rules::opcode::Operands;
@@ -139,7 +138,7 @@ pub fn decrement(t: Taken, cells: &mut Cells, vars: &mut [u32; 64]) -> Upshot
 fn put_unless_zero(
     o: Operands,
     next: WordIndex,
-    x: Division,
+    x: Option<u32>,
     cells: &mut Cells,
     vars: &mut [u32; 64],
 ) -> Upshot
@@ -148,8 +147,8 @@ fn put_unless_zero(
         → Sets result (does (λ e. refuse 26 (eqb o.a 0) (gives v o e)) next) cells.old cells.new vars.old vars.new }
 {
     match x {
-        Division::ByZero => refuse(cells, 26),
-        Division::Gives(v) => put(o, next, v, cells, vars),
+        None => refuse(cells, 26),
+        Some(v) => put(o, next, v, cells, vars),
     }
 }
 

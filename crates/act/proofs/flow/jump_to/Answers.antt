@@ -14,14 +14,14 @@ returns-in-Unmet c =
     let g = c.args in
     jump-no _ (aimed g.aim g.n g.count) _ _ c.first.ensures c.second.ensures c.condition_of-c.ensures c.in-Unmet.is c.finish.ensures
 
-pub returns-in-Refused : goal.returns-in-Refused
-returns-in-Refused c =
+pub returns-in-None : goal.returns-in-None
+returns-in-None c =
     let g = c.args in
     jump-27 _ (aimed g.aim g.n g.count) g.next _ c.first.ensures c.second.ensures c.condition_of-c.ensures
-    c.in-Met.is (λ e. sym (c.aimed-t.ensures e) ∙ c.in-Refused.is) c.refuse-in-Refused.ensures
+    c.in-Met.is (λ e. sym (c.aimed-t.ensures e) ∙ c.in-None.is) c.refuse-in-None.ensures
 
-pub returns-in-At : goal.returns-in-At
-returns-in-At c =
+pub returns-in-Some : goal.returns-in-Some
+returns-in-Some c =
     let g = c.args in
     jump-at _ (aimed g.aim g.n g.count) g.next _ c.first.ensures c.second.ensures c.condition_of-c.ensures
-    c.in-Met.is (λ e. sym (c.aimed-t.ensures e) ∙ c.in-At.is) c.finish-in-At.ensures
+    c.in-Met.is (λ e. sym (c.aimed-t.ensures e) ∙ c.in-Some.is) c.finish-in-Some.ensures
