@@ -10,7 +10,7 @@ ghost use Rattle.lent.specs.Lent.{celled};
 ghost use Rattle.lent.specs.Shown.{does, answers};
 ghost use Rattle.lent.specs.Leaves.{Paints, Draws, Handed, Drawable, Logical};
 
-use crate::point::{Point, Round, circle_of, point_by, point_of};
+use crate::point::{circle_of, point_by, point_of};
 use brush::{Brush, hold_all, hold_circle, hold_dashed, hold_dot, hold_line};
 use fetch::source::Taken;
 use lent::registers::{
@@ -28,7 +28,7 @@ fn dot_at(x: u32, y: u32, c: u8, next: WordIndex, cells: &mut Cells, brush: &mut
     ensures { Paints result (does (dots (Opcodes.point x y) c) next)
         cells.old cells.new brush.new }
 {
-    let Point::At(p) = point_of(x, y) else {
+    let Some(p) = point_of(x, y) else {
         return refuse(cells, 25);
     };
     hold_dot(brush, p, c);
@@ -98,10 +98,10 @@ pub fn line(t: Taken, cells: &mut Cells, brush: &mut Brush) -> Upshot
             if other_type(1, o.a) {
                 return refuse(cells, 24);
             }
-            let Point::At(p) = point_of(o.b, o.c) else {
+            let Some(p) = point_of(o.b, o.c) else {
                 return refuse(cells, 25);
             };
-            let Point::At(q) = point_of(o.d, o.e) else {
+            let Some(q) = point_of(o.d, o.e) else {
                 return refuse(cells, 25);
             };
             hold_typed(o.a, Line { from: p, to: q }, &*cells, brush);
@@ -141,7 +141,7 @@ pub fn line_to(t: Taken, cells: &mut Cells, points: &mut Points, brush: &mut Bru
             if other_type(1, o.a) {
                 return refuse(cells, 24);
             }
-            let Point::At(q) = point_of(o.b, o.c) else {
+            let Some(q) = point_of(o.b, o.c) else {
                 return refuse(cells, 25);
             };
             draw_to(o.a, q, next, cells, points, brush)
@@ -162,7 +162,7 @@ pub fn line_by(t: Taken, cells: &mut Cells, points: &mut Points, brush: &mut Bru
                 return refuse(cells, 24);
             }
             let here = position(&*points);
-            let Point::At(q) = point_by(here, o.b, o.c) else {
+            let Some(q) = point_by(here, o.b, o.c) else {
                 return refuse(cells, 25);
             };
             draw_to(o.a, q, next, cells, points, brush)
@@ -182,7 +182,7 @@ pub fn circle(t: Taken, filled: bool, cells: &mut Cells, brush: &mut Brush) -> U
             if other_type(0, o.a) {
                 return refuse(cells, 24);
             }
-            let Round::At(k) = circle_of(o.b, o.c, o.d) else {
+            let Some(k) = circle_of(o.b, o.c, o.d) else {
                 return refuse(cells, 25);
             };
             hold_circle(brush, k, filled, colour(&*cells));

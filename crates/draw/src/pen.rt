@@ -7,7 +7,7 @@ ghost use Rattle.lent.specs.Lent.{CellsFull, PointsFull};
 ghost use Rattle.lent.specs.Shown.{answers};
 ghost use Rattle.lent.specs.Leaves.{Goes, Moves};
 
-use crate::point::{Point, point_by, point_of};
+use crate::point::{point_by, point_of};
 use fetch::source::Taken;
 use lent::registers::{
     Cells, Points, finish, position, refuse, set_colour, set_mode, set_origin, set_pattern,
@@ -56,10 +56,10 @@ pub fn clip_window(t: Taken, cells: &mut Cells, points: &mut Points) -> Upshot
     match t {
         Taken::Refused(n, i) => stop(cells, n, i),
         Taken::Got(o, next) => {
-            let Point::At(p) = point_of(o.a, o.b) else {
+            let Some(p) = point_of(o.a, o.b) else {
                 return refuse(cells, 25);
             };
-            let Point::At(q) = point_of(o.c, o.d) else {
+            let Some(q) = point_of(o.c, o.d) else {
                 return refuse(cells, 25);
             };
             set_window(points, window(p, q));
@@ -105,7 +105,7 @@ pub fn move_to(t: Taken, cells: &mut Cells, points: &mut Points) -> Upshot
     match t {
         Taken::Refused(n, i) => stop(cells, n, i),
         Taken::Got(o, next) => {
-            let Point::At(p) = point_of(o.a, o.b) else {
+            let Some(p) = point_of(o.a, o.b) else {
                 return refuse(cells, 25);
             };
             set_position(points, p);
@@ -124,7 +124,7 @@ pub fn move_by(t: Taken, cells: &mut Cells, points: &mut Points) -> Upshot
         Taken::Refused(n, i) => stop(cells, n, i),
         Taken::Got(o, next) => {
             let here = position(&*points);
-            let Point::At(p) = point_by(here, o.a, o.b) else {
+            let Some(p) = point_by(here, o.a, o.b) else {
                 return refuse(cells, 25);
             };
             set_position(points, p);
@@ -142,7 +142,7 @@ pub fn origin(t: Taken, cells: &mut Cells, points: &mut Points) -> Upshot
     match t {
         Taken::Refused(n, i) => stop(cells, n, i),
         Taken::Got(o, next) => {
-            let Point::At(p) = point_of(o.a, o.b) else {
+            let Some(p) = point_of(o.a, o.b) else {
                 return refuse(cells, 25);
             };
             set_origin(points, p);
