@@ -18,6 +18,7 @@ pub struct WordIndex(pub u32);
 pub struct BitAddress(pub u32);
 
 // Whether the last of n variables from v on is above 63.
+#[tactic(auto, using(crate::proofs::Places::above_is))]
 pub fn above(v: VarNo, n: u16) -> bool
     requires { (1 ≤ n) × (n ≤ 64) }
     ensures { result ≡ Place.above v n }
@@ -35,12 +36,14 @@ impl WordIndex {
     }
 }
 
+#[tactic(auto, unfolding(crate::specs::Place::index_of))]
 fn index(n: u32, words: u32) -> Option<WordIndex>
     ensures { result ≡ index_of (pos n) words }
 {
     if n < words { Some(WordIndex(n)) } else { None }
 }
 
+#[tactic(auto, unfolding(crate::specs::Place::word_of))]
 pub fn word_at(a: BitAddress, words: u32) -> Option<WordIndex>
     ensures { result ≡ word_of a words }
 {
@@ -52,6 +55,7 @@ pub fn word_at(a: BitAddress, words: u32) -> Option<WordIndex>
 }
 
 // A sum below 0, or above 32 bits, is no index of any list.
+#[tactic(auto, using(crate::proofs::Places::past_32))]
 pub fn word_from(next: WordIndex, offset: u32, words: u32) -> Option<WordIndex>
     ensures { result ≡ index_of (pos next.0 +ℤ signed32 offset) words }
 {
