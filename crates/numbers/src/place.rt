@@ -1,4 +1,5 @@
-// A variable's number, a word's index in the list and a bit address, with the checked way from an address to an index.
+// A variable's number, a word's index in the list and a bit address, with the checked way from an address to an index. Three
+// structs, since none of them may stand for another.
 ghost use Rattle.std.specs.Prelude.{◌≡◌, ◌+◌, ◌^◌, ◌<◌, ◌≤◌, pos, ◌+ℤ◌};
 ghost use Rattle.numbers.specs.Number.{signed32};
 ghost use Rattle.numbers.specs.Place as Place;
