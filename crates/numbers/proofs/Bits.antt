@@ -89,15 +89,15 @@ low-mul (negsuc a) (negsuc b) =
     omega (arith, cancels (2 ^ 32) x y (suc b) (omega arith), cancels (2 ^ 32) (suc b) x (suc a) (omega arith), mul_comm x (suc b), mul_comm (suc b) (suc a))
 
 module _ (a b : ℕ) (ha : a < 2 ^ 32) (hb : b < 2 ^ 32) where
-  pub sum-bits : sum32 a b ≡ (a + b) % 2 ^ 32
+  pub sum_bits : sum32 a b ≡ (a + b) % 2 ^ 32
   unfolding sum32
-  sum-bits = low-add (signed32 a) (signed32 b) ∙ rw (low_signed a ha, low_signed b hb)
+  sum_bits = low-add (signed32 a) (signed32 b) ∙ rw (low_signed a ha, low_signed b hb)
 
-  pub difference-bits : difference32 a b ≡ (a + (2 ^ 32 - b)) % 2 ^ 32
+  pub difference_bits : difference32 a b ≡ (a + (2 ^ 32 - b)) % 2 ^ 32
   unfolding difference32
-  difference-bits =
+  difference_bits =
       low-add (signed32 a) (neg_ℤ (signed32 b)) ∙ rw (low-neg (signed32 b), low_signed a ha, low_signed b hb) (omega arith)
 
-  pub product-bits : product32 a b ≡ (a * b) % 2 ^ 32
+  pub product_bits : product32 a b ≡ (a * b) % 2 ^ 32
   unfolding product32
-  product-bits = low-mul (signed32 a) (signed32 b) ∙ rw (low_signed a ha, low_signed b hb)
+  product_bits = low-mul (signed32 a) (signed32 b) ∙ rw (low_signed a ha, low_signed b hb)

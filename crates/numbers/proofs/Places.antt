@@ -20,9 +20,9 @@ module _ (v : VarNo) (n : ℕ) where
   not-above h = ltb-false _ _ h
 
   -- as the program compares, without a sum
-  pub above-is : 1 ≤ n → n ≤ 64 → ltb (64 - n) v.0 ≡ above v n
+  pub above_is : 1 ≤ n → n ≤ 64 → ltb (64 - n) v.0 ≡ above v n
   unfolding above
-  above-is one most = go (ltb (64 - n) v.0) refl
+  above_is one most = go (ltb (64 - n) v.0) refl
     where
       go : (t : Bool) → ltb (64 - n) v.0 ≡ t → t ≡ ltb 63 (v.0 + (n - 1))
       go true h = sym (lt-ltb 63 (v.0 + (n - 1)) (omega (arith, one, most, ltb-true (64 - n) v.0 h)))
@@ -54,10 +54,10 @@ word-of w words h =
     rw (eq-eqb (16 * w.0 % 16) 0 (omega arith), lt-ltb (16 * w.0 / 16) words (omega arith)) (ap (λ (k : ℕ). Some (record { 0 = k })) (omega arith))
 
 -- a number that no 32 bits make is no index of a list
-pub past-32 : (z : ℤ) (words : ℕ) → words < 2 ^ 32 → (FitsUnsigned w32 z → ⊥) → None ≡ index_of z words
+pub past_32 : (z : ℤ) (words : ℕ) → words < 2 ^ 32 → (FitsUnsigned w32 z → ⊥) → None ≡ index_of z words
 unfolding index_of
-past-32 (pos n) words k h = rw (le-ltb n words (omega (arith, beyond)))
+past_32 (pos n) words k h = rw (le-ltb n words (omega (arith, beyond)))
   where
     beyond : n < words → ⊥
     beyond l = h (grind (arith, ints), grind (arith, ints))
-past-32 (negsuc n) words k h = refl
+past_32 (negsuc n) words k h = refl

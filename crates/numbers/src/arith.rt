@@ -12,12 +12,14 @@ ghost use Rattle.numbers.specs.Number.{
 
 use crate::value::{of_signed, to_signed};
 
+#[tactic(auto, using(crate::proofs::Bits::sum_bits))]
 pub fn add(a: u32, b: u32) -> u32
     ensures { result ≡ sum32 a b }
 {
     a.wrapping_add(b)
 }
 
+#[tactic(auto, using(crate::proofs::Bits::difference_bits))]
 pub fn sub(a: u32, b: u32) -> u32
     ensures { result ≡ difference32 a b }
 {
@@ -36,6 +38,8 @@ pub fn dec(a: u32) -> u32
     sub(a, 1)
 }
 
+// A helper of our own, which MLTV is to have: the exact product, cut to its low 32 bits.
+#[tactic(auto, using(crate::proofs::Bits::product_bits))]
 pub fn mul(a: u32, b: u32) -> u32
     ensures { result ≡ product32 a b }
 {

@@ -22,6 +22,7 @@ pub fn coordinate_of(v: u32) -> Option<i32>
     judge(i64::from(to_signed(v)))
 }
 
+// Not by `judge`: a radius is no sum and has a range of its own, so that a function for both would be no plainer.
 pub fn radius_of(v: u32) -> Option<i32>
     ensures { result ≡ radius (signed32 v) }
 {

@@ -1,4 +1,5 @@
-// A variable's number, a word's index in the list and a bit address, with the checked way from an address to an index.
+// A variable's number, a word's index in the list and a bit address, with the checked way from an address to an index. Three
+// structs, since none of them may stand for another.
 ghost use Rattle.std.specs.Prelude.{◌≡◌, ◌+◌, ◌^◌, ◌<◌, ◌≤◌, pos, ◌+ℤ◌};
 ghost use Rattle.numbers.specs.Number.{signed32};
 ghost use Rattle.numbers.specs.Place as Place;
@@ -18,6 +19,7 @@ pub struct WordIndex(pub u32);
 pub struct BitAddress(pub u32);
 
 // Whether the last of n variables from v on is above 63.
+#[tactic(auto, using(crate::proofs::Places::above_is))]
 pub fn above(v: VarNo, n: u16) -> bool
     requires { (1 ≤ n) × (n ≤ 64) }
     ensures { result ≡ Place.above v n }
@@ -35,12 +37,14 @@ impl WordIndex {
     }
 }
 
+#[tactic(auto, unfolding(crate::specs::Place::index_of))]
 fn index(n: u32, words: u32) -> Option<WordIndex>
     ensures { result ≡ index_of (pos n) words }
 {
     if n < words { Some(WordIndex(n)) } else { None }
 }
 
+#[tactic(auto, unfolding(crate::specs::Place::word_of))]
 pub fn word_at(a: BitAddress, words: u32) -> Option<WordIndex>
     ensures { result ≡ word_of a words }
 {
@@ -52,6 +56,7 @@ pub fn word_at(a: BitAddress, words: u32) -> Option<WordIndex>
 }
 
 // A sum below 0, or above 32 bits, is no index of any list.
+#[tactic(auto, using(crate::proofs::Places::past_32))]
 pub fn word_from(next: WordIndex, offset: u32, words: u32) -> Option<WordIndex>
     ensures { result ≡ index_of (pos next.0 +ℤ signed32 offset) words }
 {

@@ -1,4 +1,4 @@
-// What comes back from a call, beside the screen that it was lent.
+// What comes back from a call, beside the screen that it was lent. It crosses to C, so it is #[repr(C)] and holds no enum.
 use crate::environment::Env;
 use numbers::place::WordIndex;
 

@@ -3,7 +3,7 @@ use mathlib.Core.Path.{refl, sym, ◌∙◌}
 use native.Mathlib.Omega.{arith}
 use Rattle.lent.proofs.Acting.{halts, drawn}
 use Rattle.lent.proofs.Handing.{passed-paints, got-paints}
-use Rattle.draw.proofs.PointLaws.{round-outside, round-at, round-near}
+use Rattle.draw.proofs.PointLaws.{told-outside, told_at, round-near}
 use Rattle.draw.proofs.painting.circle.Goals as goal
 
 pub returns-then-other_type : goal.returns-then-other_type
@@ -18,7 +18,7 @@ returns-then-other_type c =
 
 pub returns-in_default : goal.returns-in_default
 returns-in_default c =
-    let out = round-outside _ _ c.circle_of.ensures c.in_default.is in
+    let out = told-outside _ _ c.circle_of.ensures c.in_default.is in
     let h = c.refuse-in_default.ensures in
     got-paints _ c.in-Got.is
     (record {
@@ -28,14 +28,14 @@ returns-in_default c =
     })
 
 pub hold_circle-requires : goal.hold_circle-requires
-hold_circle-requires c = record { full = c.requires.1.0; word = round-near _ _ (round-at _ _ c.circle_of.ensures c.in-At.is) }
+hold_circle-requires c = record { full = c.requires.1.0; word = round-near _ _ (told_at _ _ c.circle_of.ensures c.in-Some.is) }
 
 pub returns-in-Refused : goal.returns-in-Refused
 returns-in-Refused c = passed-paints _ c.in-Refused.is c.stop.ensures c.requires.1
 
-pub returns-in-At : goal.returns-in-At
-returns-in-At c =
-    let p = round-at _ _ c.circle_of.ensures c.in-At.is in
+pub returns-in-Some : goal.returns-in-Some
+returns-in-Some c =
+    let p = told_at _ _ c.circle_of.ensures c.in-Some.is in
     let g = c.finish_painting.ensures in
     let h = c.hold_circle.ensures in
     got-paints _ c.in-Got.is

@@ -13,12 +13,12 @@ returns-in_default c =
 
 pub hold_dot-requires : goal.hold_dot-requires
 hold_dot-requires c =
-    let p = told_at _ _ c.point_of.ensures c.in-At.is in
+    let p = told_at _ _ c.point_of.ensures c.in-Some.is in
     record { full = c.requires.1.0; word = rw p.1 (near _ p.0) }
 
 pub returns : goal.returns
 returns c =
-    let p = told_at _ _ c.point_of.ensures c.in-At.is in
+    let p = told_at _ _ c.point_of.ensures c.in-Some.is in
     let g = c.finish_painting.ensures in
     let h = c.hold_dot.ensures in
     record {

@@ -29,7 +29,7 @@ returns-in_default c n =
 
 pub returns-in_default-point_of : goal.returns-in_default-point_of
 returns-in_default-point_of c n =
-    let p = told_at _ _ c.point_of.ensures c.in-At.is in
+    let p = told_at _ _ c.point_of.ensures c.in-Some.is in
     let out = told-outside _ _ c.point_of-in-Got.ensures c.in_default-point_of.is in
     let h = c.refuse-in_default-point_of.ensures in
     got-paints _ c.in-Got.is
@@ -41,17 +41,17 @@ returns-in_default-point_of c n =
 
 pub hold_typed-requires : goal.hold_typed-requires
 hold_typed-requires c =
-    let p = told_at _ _ c.point_of.ensures c.in-At.is in
-    let q = told_at _ _ c.point_of-in-Got.ensures c.in-At-point_of.is in
+    let p = told_at _ _ c.point_of.ensures c.in-Some.is in
+    let q = told_at _ _ c.point_of-in-Got.ensures c.in-Some-point_of.is in
     record { full = c.requires.1.0; logical = (near-as p.1 (near _ p.0), near-as q.1 (near _ q.0)) }
 
 pub returns-in-Refused : goal.returns-in-Refused
 returns-in-Refused c n = passed-paints _ c.in-Refused.is c.stop.ensures c.requires.1
 
-pub returns-in-At-point_of : goal.returns-in-At-point_of
-returns-in-At-point_of c n =
-    let p = told_at _ _ c.point_of.ensures c.in-At.is in
-    let q = told_at _ _ c.point_of-in-Got.ensures c.in-At-point_of.is in
+pub returns-in-Some-point_of : goal.returns-in-Some-point_of
+returns-in-Some-point_of c n =
+    let p = told_at _ _ c.point_of.ensures c.in-Some.is in
+    let q = told_at _ _ c.point_of-in-Got.ensures c.in-Some-point_of.is in
     let g = c.finish_painting.ensures in
     let h = c.hold_typed.ensures in
     got-paints _ c.in-Got.is

@@ -33,15 +33,15 @@ returns-in_default c n =
 
 pub draw_to-requires : goal.draw_to-requires
 draw_to-requires c =
-    let q = told_at _ _ c.point_by.ensures c.in-At.is in
+    let q = told_at _ _ c.point_by.ensures c.in-Some.is in
     (c.requires, rw q.1 (near _ (neither (far (point c.in-Got.o.b c.in-Got.o.c)) _ q.0).1))
 
 pub returns-in-Refused : goal.returns-in-Refused
 returns-in-Refused c n = passed-draws _ c.in-Refused.is c.stop.ensures c.requires.points c.requires.brush
 
-pub returns-in-At : goal.returns-in-At
-returns-in-At c n =
-    let q = told_at _ _ (from _ c.position-here.ensures c.point_by.ensures) c.in-At.is in
+pub returns-in-Some : goal.returns-in-Some
+returns-in-Some c n =
+    let q = told_at _ _ (from _ c.position-here.ensures c.point_by.ensures) c.in-Some.is in
     let d = c.draw_to.ensures in
     got-draws _ c.in-Got.is
     (record {

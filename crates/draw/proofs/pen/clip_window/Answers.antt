@@ -20,7 +20,7 @@ returns-in_default c n =
 
 pub returns-in_default-point_of : goal.returns-in_default-point_of
 returns-in_default-point_of c n =
-    let p = told_at _ _ c.point_of.ensures c.in-At.is in
+    let p = told_at _ _ c.point_of.ensures c.in-Some.is in
     let out = told-outside _ _ c.point_of-in-Got.ensures c.in_default-point_of.is in
     let h = c.refuse-in_default-point_of.ensures in
     got-moves _ c.in-Got.is
@@ -33,10 +33,10 @@ returns-in_default-point_of c n =
 pub returns-in-Refused : goal.returns-in-Refused
 returns-in-Refused c n = passed-moves _ c.in-Refused.is c.stop.ensures c.requires.1
 
-pub returns-in-At-point_of : goal.returns-in-At-point_of
-returns-in-At-point_of c n =
-    let p = told_at _ _ c.point_of.ensures c.in-At.is in
-    let q = told_at _ _ c.point_of-in-Got.ensures c.in-At-point_of.is in
+pub returns-in-Some-point_of : goal.returns-in-Some-point_of
+returns-in-Some-point_of c n =
+    let p = told_at _ _ c.point_of.ensures c.in-Some.is in
+    let q = told_at _ _ c.point_of-in-Got.ensures c.in-Some-point_of.is in
     let g = c.finish.ensures in
     got-moves _ c.in-Got.is
     (record {

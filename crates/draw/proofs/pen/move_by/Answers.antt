@@ -21,9 +21,9 @@ returns-in_default c n =
 pub returns-in-Refused : goal.returns-in-Refused
 returns-in-Refused c n = passed-moves _ c.in-Refused.is c.stop.ensures c.requires.1
 
-pub returns-in-At : goal.returns-in-At
-returns-in-At c n =
-    let p = told_at _ _ (from _ c.position-here.ensures c.point_by.ensures) c.in-At.is in
+pub returns-in-Some : goal.returns-in-Some
+returns-in-Some c n =
+    let p = told_at _ _ (from _ c.position-here.ensures c.point_by.ensures) c.in-Some.is in
     let g = c.finish.ensures in
     got-moves _ c.in-Got.is
     (record {
