@@ -15,17 +15,11 @@ use Rattle.numbers.specs.declared.place.WordIndex.{WordIndex}
 use Rattle.numbers.proofs.Answers.{told-first, told-second, clash}
 use Rattle.raster.specs.declared.dots.Dot.{Dot}
 use Rattle.raster.specs.Shapes.{shifted}
-use Rattle.raster.specs.Frame.{Word}
 use Rattle.circles.specs.declared.circle.Circle.{Circle}
-use Rattle.brush.specs.Brush.{Radius}
-use Rattle.brush.proofs.Brushes.{radius-natural, radius-back}
-use Rattle.player.specs.declared.Upshot.{Upshot}
+use Rattle.brush.specs.Near.{near_dot, near_circle}
+use Rattle.brush.proofs.Held.{radius-natural, radius-back}
 use Rattle.rules.specs.Opcodes.{far, dots}
-use Rattle.rules.proofs.Ranges.{one, other, neither}
-use Rattle.rules.proofs.DoorLaws.{logical}
-use Rattle.lent.specs.Lent.{celled, look}
-use Rattle.lent.specs.Shown.{does}
-use Rattle.lent.specs.Leaves.{Paints, Logical}
+use Rattle.rules.proofs.Ranges.{both, neither}
 use Rattle.draw.specs.Point.{some_unless, point_of, point_by, paired, round_of}
 
 -- s and t: x and y are within a signed word
@@ -55,16 +49,9 @@ sum-judged p d q is px py qx qy = rw (same p.x px, same p.y py, same q.x qx, sam
     same : (z : ℤ) → mag z < 2 ^ 31 → in32 z ≡ z
     same z h = to_z-of_z {w = w32} (record { sfits = h })
 
--- offsets from h, which is the point p
-pub from : {h p : Dot} (d : Dot) {r : Option Dot} → h ≡ p → r ≡ point_by h d → r ≡ point_by p d
-from d e is = is ∙ ap (λ p. point_by p d) e
-
--- ---- what a brush holds: a point that is not far has two signed words
-pub near : (p : Dot) → far p ≡ false → Logical p
-near p e = logical p (not-false _ e)
-
-pub near-as : {p q : Dot} → p ≡ q → Logical q → Logical p
-near-as e h = rw e h
+-- ---- what a brush asks of what it holds: a point that is not far
+pub near : {p q : Dot} → (far p ≡ false) × (q ≡ p) → near_dot q ≡ true
+near h = rw h.1 (not-false _ h.0)
 
 -- ---- what the answer r tells of x, a point or a circle
 module _ {X : Type 0} {r : Option X} (out : Bool) (x : X) (is : r ≡ some_unless out x) where
@@ -77,10 +64,6 @@ module _ {X : Type 0} {r : Option X} (out : Bool) (x : X) (is : r ≡ some_unles
   told_at e = let t = told-second out (λ o. clash (cc)) (sym is ∙ e) in (t.0, cc)
 
 -- ---- circles: the centre is judged, and then the radius
-is-radius : (z : ℤ) → is_radius z ≡ true → Radius z
-unfolding is_radius
-is-radius z e = record { low = one _ _ e; high = other (le_z (pos 0) z) _ e }
-
 module _ (p : Dot) (z : ℤ) where
   pub no-centre : far p ≡ true → None ≡ round_of p z
   unfolding some_unless
@@ -95,20 +78,9 @@ module _ (p : Dot) (z : ℤ) where
   round-judged {q} {x} is r =
       let t = told-first (is_radius z) (λ o. clash (cc)) r in
       let same : x ≡ z = cc in
-      let k = is-radius z t.0 in
-      rw (same, radius-back z k, radius-natural z k, is.1, is.0, t.0)
+      rw (same, radius-back z t.0, radius-natural z t.0, is.1, is.0, t.0)
 
--- what brush asks of it
-pub round-near : {l : Circle} (p : Dot) (z : ℤ) → ((far p || not (is_radius z)) ≡ false) × (l ≡ record { centre = p; radius = z })
-    → Word l.centre.x × Word l.centre.y × Radius l.radius
+pub round-near : {l : Circle} (p : Dot) (z : ℤ) → ((far p || not (is_radius z)) ≡ false) × (l ≡ record { centre = p; radius = z }) → near_circle l ≡ true
 round-near p z t =
     let g = neither _ _ t.0 in
-    let n = near p g.0 in
-    rw t.1 (n.0, n.1, is-radius z (not-false (is_radius z) g.1))
-
--- ---- dots at d in the colour c, which is the foreground's
-pub foreground : (d : Dot) (next : WordIndex) {c : ℕ} {u : Upshot} {cs cs' p : List ℕ} → c ≡ (celled cs).colour
-    → Paints u (does (dots d c) next) cs cs' p → Paints u (does (λ e. dots d e.pen.colour e) next) cs cs' p
-unfolding does
-foreground d next {cs = cs} {p = p} e h =
-    record { cells = h.cells; brush = h.brush; tells = λ b ps vs st. h.tells b ps vs st ∙ ap (λ c. does (dots d c) next (look b cs ps vs st) p) e }
+    rw t.1 (both (near_dot p) (is_radius z) (not-false _ g.0) (not-false (is_radius z) g.1))
