@@ -34,7 +34,7 @@ module _ (b : Bounds) (r : Registers) (vs : List ℕ) (st : Stack) (next : WordI
       called full h =
           let stacked : firsts start (r.depth + 1) (set st.returns r.depth next) ≡ firsts start r.depth st.returns ++ (next ∷ [])
           = rw add-one (push start r.depth next st.returns (omega (arith, h, full))) in
-          quiet (calls target) next e (rw (m, length-firsts start r.depth st.returns, lt-leb 16 r.depth h) refl) (rw (m, stacked) refl) refl (rw m refl) refl
+          quiet (calls target) next e (rw (m, length-firsts start r.depth st.returns, lt-leb 16 r.depth h) refl) (rw (m, stacked) refl) (rw m refl) refl
 
   -- ---- a return
   module _ (o : Operands) (n : ℕ) where
@@ -49,4 +49,4 @@ module _ (b : Bounds) (r : Registers) (vs : List ℕ) (st : Stack) (next : WordI
         let left = rw above at (pop start (r.depth - 1) st.returns) in
         let last = each start r.depth (r.depth - 1) st.returns (omega (arith, h)) in
         quiet (rule Op.Return o n) next e (rw (length-firsts start r.depth st.returns, ne_eqb r.depth 0 h) refl)
-        (rw (length-firsts start r.depth st.returns, last, left) refl) refl refl refl
+        (rw (length-firsts start r.depth st.returns, last, left) refl) refl refl

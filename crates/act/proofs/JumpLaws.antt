@@ -28,7 +28,7 @@ module _ (b : Bounds) (r : Registers) (vs : List ℕ) (st : Stack) (next : WordI
     no-target held m = rw (asked.0, asked.1, held, m) refl
 
     pub taken : t ≡ true → {i : WordIndex} → T (goto next e) ≡ Some i → seen (Ok None) (look b (record r { counter = i }) vs st) ≡ does jump next e
-    taken held m = quiet jump next e (rw (asked.0, asked.1, held, m) refl) (rw (asked.1, held, m) refl) refl (rw (asked.1, held, m) refl) refl
+    taken held m = quiet jump next e (rw (asked.0, asked.1, held, m) refl) (rw (asked.1, held, m) refl) (rw (asked.1, held, m) refl) refl
 
     pub not-taken : t ≡ false → seen (Ok None) (look b (record r { counter = next }) vs st) ≡ does jump next e
-    not-taken failed = quiet jump next e (rw (asked.0, asked.1, failed) refl) (rw (asked.1, failed) refl) refl (rw (asked.1, failed) refl) refl
+    not-taken failed = quiet jump next e (rw (asked.0, asked.1, failed) refl) (rw (asked.1, failed) refl) (rw (asked.1, failed) refl) refl

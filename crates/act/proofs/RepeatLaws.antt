@@ -46,7 +46,7 @@ module _ (b : Bounds) (r : Registers) (vs : List ℕ) (st : Stack) (next : WordI
     opens full h =
         let stacked_as : firsts over (st.nesting + 1) (set st.repeats st.nesting (repeat next o.a)) ≡ firsts over st.nesting st.repeats ++ (repeat next o.a ∷ [])
         = rw add-one (push over st.nesting (repeat next o.a) st.repeats (omega (arith, h, full))) in
-        quiet (rule Op.Repeat o n) next e (rw (c, length-firsts over st.nesting st.repeats, lt-leb 8 st.nesting h) refl) (rw stacked_as refl) refl refl refl
+        quiet (rule Op.Repeat o n) next e (rw (c, length-firsts over st.nesting st.repeats, lt-leb 8 st.nesting h) refl) (rw stacked_as refl) refl refl
 
   -- ---- ERPT
   pub none-open : st.nesting ≡ 0 → lowest (rule Op.EndRepeat o n (goto next e)) ≡ Some 29
@@ -70,7 +70,7 @@ module _ (b : Bounds) (r : Registers) (vs : List ℕ) (st : Stack) (next : WordI
         → seen (Ok None) (look b (record r { counter = next }) vs (record st { nesting = st.nesting - 1 })) ≡ does (rule Op.EndRepeat o n) next e
     closes l =
         quiet (rule Op.EndRepeat o n) next e (rw (length-firsts over st.nesting st.repeats, ne_eqb st.nesting 0 h) refl)
-        (rw (length-firsts over st.nesting st.repeats, innermost-is, le-ltb 1 innermost.left l, closed-as) refl) refl
+        (rw (length-firsts over st.nesting st.repeats, innermost-is, le-ltb 1 innermost.left l, closed-as) refl)
         (rw (length-firsts over st.nesting st.repeats, innermost-is, le-ltb 1 innermost.left l) refl) refl
 
     -- else the list goes back to its start
@@ -83,5 +83,5 @@ module _ (b : Bounds) (r : Registers) (vs : List ℕ) (st : Stack) (next : WordI
         let stacked_as : firsts over st.nesting (set st.repeats (st.nesting - 1) again) ≡ firsts over (st.nesting - 1) st.repeats ++ (again ∷ [])
         = rw above at (push over (st.nesting - 1) again st.repeats (omega (arith, h, full, nested))) in
         quiet (rule Op.EndRepeat o n) next e (rw (length-firsts over st.nesting st.repeats, ne_eqb st.nesting 0 h) refl)
-        (rw (length-firsts over st.nesting st.repeats, innermost-is, lt-ltb 1 innermost.left l, closed-as, stacked_as) refl) refl
+        (rw (length-firsts over st.nesting st.repeats, innermost-is, lt-ltb 1 innermost.left l, closed-as, stacked_as) refl)
         (rw (length-firsts over st.nesting st.repeats, innermost-is, lt-ltb 1 innermost.left l) refl) refl

@@ -53,6 +53,9 @@ sum-judged p d q is px py qx qy = rw (same p.x px, same p.y py, same q.x qx, sam
 pub near : {p q : Dot} → (far p ≡ false) × (q ≡ p) → near_dot q ≡ true
 near h = rw h.1 (not-false _ h.0)
 
+pub near-by : {p q : Dot} (d : Dot) → ((far d || far p) ≡ false) × (q ≡ p) → near_dot q ≡ true
+near-by d h = near ((neither _ _ h.0).1, h.1)
+
 -- ---- what the answer r tells of x, a point or a circle
 module _ {X : Type 0} {r : Option X} (out : Bool) (x : X) (is : r ≡ some_unless out x) where
   pub told-outside : r ≡ None → out ≡ true

@@ -12,6 +12,7 @@ ghost use Rattle.lent.specs.Leaves.{Goes};
 
 use crate::point::{circle_of, point_by, point_of};
 use brush::{Brush, Figure};
+use circles::circle::Circle;
 use fetch::source::Fetched;
 use lines::line::Line;
 use numbers::place::WordIndex;
@@ -128,6 +129,18 @@ pub fn line_by(f: Fetched, registers: &mut Registers) -> Upshot
     draw_to(o.a, q, f.next, registers)
 }
 
+// A circle, filled or the outline alone.
+fn round(filled: bool, k: Circle) -> Figure
+    ensures shape { shape_of result ≡ Circles.circle filled k }
+    ensures near { is_near result ≡ is_near (Figure.Disc k) }
+{
+    if filled {
+        Figure::Disc(k)
+    } else {
+        Figure::Outline(k)
+    }
+}
+
 // A circle in the foreground colour, filled or the outline alone. a: its type; b, c: x and y of its centre; d: its radius.
 pub fn circle(f: Fetched, filled: bool, registers: &mut Registers) -> Upshot
     ensures { Goes result (does (Opcodes.circles (Circles.circle filled) f.operands) f.next) registers.old registers.new }
@@ -139,11 +152,7 @@ pub fn circle(f: Fetched, filled: bool, registers: &mut Registers) -> Upshot
     let k = circle_of(o.b, o.c, o.d).ok_or(registers.refused(Refusal::Outside))?;
     registers.counter = f.next;
     Ok(Some(Brush {
-        figure: if filled {
-            Figure::Disc(k)
-        } else {
-            Figure::Outline(k)
-        },
+        figure: round(filled, k),
         colour: registers.colour,
     }))
 }

@@ -6,8 +6,6 @@ use Rattle.std.specs.Option.{ok_or}
 use Rattle.raster.specs.declared.frame.Frame.{Frame}
 use Rattle.raster.specs.Shapes.{Shape}
 use Rattle.raster.specs.Frame.{drawable}
-use Rattle.brush.specs.declared.Brush.{Brush}
-use Rattle.brush.specs.Brush.{shape_of}
 use Rattle.player.specs.declared.Verdict.{Verdict}
 use Rattle.player.specs.Painting.{Painting, placed, nothing}
 use Rattle.player.specs.Player.{fault, Outcome, done, refused}
@@ -77,17 +75,17 @@ module _ (rule : Env → Rule) (next : WordIndex) (e : Env) where
   unfolding does carried
   past f k same x = goes k (rw same at x)
 
-  module _ {u : Upshot} {e' : Env} (k : lowest r ≡ None) (env : e' ≡ r.env) where
-    -- a brush that holds its shape is handed back, the frame that of before
-    pub drawn : {p : Brush} → u ≡ Ok (Some p) → frame r.env ≡ frame e → shape_of p.figure ≡ r.shape → p.colour ≡ r.colour → seen u e' ≡ does rule next e
-    drawn is framed shape colour =
-        goes k (rw (is, env, shape, colour) (ap (λ (f : Frame). went r.env (marks (placed f r.shape r.colour))) framed))
+  -- one that breaks none, where e' is left: the shape S is painted in the colour c, the frame that of before
+  module _ {e' : Env} (k : lowest r ≡ None) (env : e' ≡ r.env) where
+    pub drawn : (S : Shape) (c : ℕ) → frame r.env ≡ frame e → S ≡ r.shape → c ≡ r.colour → went e' (marks (placed (frame e') S c)) ≡ does rule next e
+    drawn S c framed shape colour =
+        goes k (rw (env, shape, colour) (ap (λ (f : Frame). went r.env (marks (placed f r.shape r.colour))) framed))
 
     -- where the shape is empty, no dot is painted
-    pub quiet : u ≡ Ok None → r.env.bounds ≡ e.bounds → painting r e ≡ nothing (frame e) → seen u e' ≡ does rule next e
-    quiet is bounds empty =
+    pub quiet : r.env.bounds ≡ e.bounds → painting r e ≡ nothing (frame e) → seen (Ok None) e' ≡ does rule next e
+    quiet bounds empty =
         goes k
-        (rw (is, env, bounds)
+        (rw (env, bounds)
         (ap (λ (d : Shape). went r.env (record { bounds = e.bounds; dots = d; colour = 0 })) (sym (no-dots (frame e)))
         ∙ ap (λ (y : Painting). went r.env (marks y)) (sym empty)))
 

@@ -6,4 +6,4 @@ use Rattle.act.proofs.flow.end.Goals as goal
 
 pub returns : goal.returns
 unfolding state_of
-returns c n b vs st = quiet _ _ _ refl refl refl refl refl
+returns c n b vs st = quiet _ _ _ refl refl refl refl

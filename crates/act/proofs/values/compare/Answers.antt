@@ -4,4 +4,4 @@ use Rattle.lent.proofs.Acting.{quiet}
 use Rattle.act.proofs.values.compare.Goals as goal
 
 pub returns : goal.returns
-returns c n b st = quiet _ _ _ refl (rw c.old-registers.ensures refl) refl refl refl
+returns c n b st = quiet _ _ _ refl (rw c.old-registers.ensures refl) refl refl

@@ -4,4 +4,4 @@ use Rattle.lent.proofs.Acting.{quiet}
 use Rattle.act.proofs.values.put.Goals as goal
 
 pub returns : goal.returns
-returns c b st = quiet _ _ _ refl refl refl refl refl
+returns c b st = quiet _ _ _ refl refl refl refl
