@@ -9,12 +9,12 @@ use Rattle.raster.specs.Frame.{drawable}
 use Rattle.player.specs.declared.Verdict.{Verdict}
 use Rattle.player.specs.Painting.{Painting, placed, nothing}
 use Rattle.player.specs.Player.{fault, Outcome, done, refused}
-use Rattle.player.specs.Shown.{marks, unmarked, went, halted}
+use Rattle.player.specs.Shown.{marks, went}
 use Rattle.numbers.specs.declared.place.WordIndex.{WordIndex}
 use Rattle.rules.specs.Environment.{Env, goto, frame}
 use Rattle.rules.specs.Opcodes.{Rule, paints}
 use Rattle.rules.specs.Step.{check, carried}
-use Rattle.lent.specs.Shown.{Shown, Upshot, stop, seen, does}
+use Rattle.lent.specs.Shown.{Shown, Upshot, seen, does}
 
 -- the lowest that a rule breaks
 abbrev pub lowest : Rule → Option ℕ
@@ -89,10 +89,14 @@ module _ (rule : Env → Rule) (next : WordIndex) (e : Env) where
         (ap (λ (d : Shape). went r.env (record { bounds = e.bounds; dots = d; colour = 0 })) (sym (no-dots (frame e)))
         ∙ ap (λ (y : Painting). went r.env (marks y)) (sym empty)))
 
--- what a `?` hands back where there is none, of what it was asked for with the refusal w
+-- what a `?` hands back of the refusal v
+pub handed-back : {u : Upshot} {v : Verdict} → IsErr u × IsErrAnd u (λ (x : Verdict). x ≡ v) → u ≡ Err v
+handed-back {u = Ok x} h = absurd (true≢false (sym h.0))
+handed-back {u = Err x} h = ap Err h.1
+
+-- and where there is none, of what it was asked for with the refusal w
 pub lacking : {A : Type 0} {o : Option A} {v w : Verdict} {u : Upshot} → IsErr u × IsErrAnd u (λ (x : Verdict). x ≡ v) → Err v ≡ ok_or o w → o ≡ None → u ≡ Err w
-lacking {u = Ok x} h e n = absurd (true≢false (sym h.0))
-lacking {A} {v = v} {w = w} {u = Err x} h e n =
+lacking {A} {v = v} {w = w} h e n =
     let made : ◌≡◌ {A = Result A Verdict} (Err v) (Err w) = rw n at e in
     let same : v ≡ w = cc in
-    ap Err (h.1 ∙ same)
+    handed-back h ∙ ap Err same

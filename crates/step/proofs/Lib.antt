@@ -1,2 +1,3 @@
-pub mod Stepping
+-- What the proofs of step's functions cite.
 pub mod Groups
+pub mod Stepping

@@ -31,13 +31,9 @@ pub fn step(
         PaintForm::Line => painting::line(plain(words, pc, 5)?, registers),
         PaintForm::Linev => painting::line(variables(words, pc, vars, 5)?, registers),
         PaintForm::Lineto => painting::line_to(plain(words, pc, 3)?, registers),
-        PaintForm::Linetov => {
-            painting::line_to(variables(words, pc, vars, 3)?, registers)
-        }
+        PaintForm::Linetov => { painting::line_to(variables(words, pc, vars, 3)?, registers) }
         PaintForm::Linetor => painting::line_by(plain(words, pc, 3)?, registers),
-        PaintForm::Linetorv => {
-            painting::line_by(variables(words, pc, vars, 3)?, registers)
-        }
+        PaintForm::Linetorv => { painting::line_by(variables(words, pc, vars, 3)?, registers) }
         PaintForm::Pixel => painting::pixel(plain(words, pc, 2)?, registers),
         PaintForm::Pixelv => painting::pixel(variables(words, pc, vars, 2)?, registers),
         PaintForm::Pixelc => painting::pixel_colour(word2_long(words, pc)?, registers),

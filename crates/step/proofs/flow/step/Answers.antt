@@ -1,106 +1,93 @@
--- `flow::step`: what was taken is what the form's source names, and the op does what its rule says.
-use mathlib.Core.Path.{ap}
-use native.Mathlib.Omega.{arith}
-use lib.ListN.{length}
+-- `flow::step`: what is fetched is what the form's source names, and the op does what its rule says.
+use Rattle.std.proofs.Common.{ap, length}
 use Rattle.rules.specs.Meaning.{flow}
-use Rattle.step.proofs.Groups.{stacks, goes-stacks}
+use Rattle.step.proofs.Groups.{not-fetched, carried-out}
 use Rattle.step.proofs.flow.step.Goals as goal
 
-pub plain-requires : goal.plain-requires
-plain-requires c = c.requires.0
+pub returns-in_err-plain-in-Noop : goal.returns-in_err-plain-in-Noop
+returns-in_err-plain-in-Noop c b vs =
+    not-fetched (ap flow c.in-Noop.is) c.args.words.now c.args.pc.0 c.args.vars.now (c.plain.ensures c.args.vars.now) c.in_err-plain-in-Noop.was c.from_residual.result c.from_residual.ensures _
 
-pub noop-requires : goal.noop-requires
-noop-requires c = c.requires.1.cells
+pub returns-in_ok-plain-in-Noop : goal.returns-in_ok-plain-in-Noop
+returns-in_ok-plain-in-Noop c b vs =
+    carried-out (ap flow c.in-Noop.is) c.args.words.now c.args.pc.0 c.args.vars.now (c.plain.ensures c.args.vars.now) c.in_ok-plain-in-Noop.was _ (c.noop.ensures (length c.args.words.now) b vs (c.args.stack.now))
 
-pub plain-requires-in-Eodl : goal.plain-requires-in-Eodl
-plain-requires-in-Eodl c = c.requires.0
+pub returns-in_err-plain-in-Eodl : goal.returns-in_err-plain-in-Eodl
+returns-in_err-plain-in-Eodl c b vs =
+    not-fetched (ap flow c.in-Eodl.is) c.args.words.now c.args.pc.0 c.args.vars.now (c.plain-in-Eodl.ensures c.args.vars.now) c.in_err-plain-in-Eodl.was c.from_residual-in_err-plain-in-Eodl.result c.from_residual-in_err-plain-in-Eodl.ensures _
 
-pub end-requires : goal.end-requires
-end-requires c = c.requires.1.cells
+pub returns-in_ok-plain-in-Eodl : goal.returns-in_ok-plain-in-Eodl
+returns-in_ok-plain-in-Eodl c b vs =
+    carried-out (ap flow c.in-Eodl.is) c.args.words.now c.args.pc.0 c.args.vars.now (c.plain-in-Eodl.ensures c.args.vars.now) c.in_ok-plain-in-Eodl.was _ (c.end.ensures (length c.args.words.now) b vs (c.args.stack.now))
 
-pub long-requires : goal.long-requires
-long-requires c = c.requires.0
+pub returns-in_err-long-in-Cal : goal.returns-in_err-long-in-Cal
+returns-in_err-long-in-Cal c b vs =
+    not-fetched (ap flow c.in-Cal.is) c.args.words.now c.args.pc.0 c.args.vars.now (c.long.ensures c.args.vars.now) c.in_err-long-in-Cal.was c.from_residual-in_err-long-in-Cal.result c.from_residual-in_err-long-in-Cal.ensures _
 
-pub call-requires : goal.call-requires
-call-requires c = c.requires.1
+pub returns-in_ok-long-in-Cal : goal.returns-in_ok-long-in-Cal
+returns-in_ok-long-in-Cal c b vs =
+    carried-out (ap flow c.in-Cal.is) c.args.words.now c.args.pc.0 c.args.vars.now (c.long.ensures c.args.vars.now) c.in_ok-long-in-Cal.was _ (c.call.ensures b vs)
 
-pub variables-requires : goal.variables-requires
-variables-requires c = (c.requires.0, omega arith, omega arith)
+pub returns-in_err-variables-in-Calv : goal.returns-in_err-variables-in-Calv
+returns-in_err-variables-in-Calv c b vs =
+    not-fetched (ap flow c.in-Calv.is) c.args.words.now c.args.pc.0 c.args.vars.now c.variables.ensures c.in_err-variables-in-Calv.was c.from_residual-in_err-variables-in-Calv.result c.from_residual-in_err-variables-in-Calv.ensures _
 
-pub call-requires-in-Calv : goal.call-requires-in-Calv
-call-requires-in-Calv c = c.requires.1
+pub returns-in_ok-variables-in-Calv : goal.returns-in_ok-variables-in-Calv
+returns-in_ok-variables-in-Calv c b vs =
+    carried-out (ap flow c.in-Calv.is) c.args.words.now c.args.pc.0 c.args.vars.now c.variables.ensures c.in_ok-variables-in-Calv.was _ (c.call-in-Calv.ensures b vs)
 
-pub plain-requires-in-Erpt : goal.plain-requires-in-Erpt
-plain-requires-in-Erpt c = c.requires.0
+pub returns-in_err-plain-in-Erpt : goal.returns-in_err-plain-in-Erpt
+returns-in_err-plain-in-Erpt c b vs =
+    not-fetched (ap flow c.in-Erpt.is) c.args.words.now c.args.pc.0 c.args.vars.now (c.plain-in-Erpt.ensures c.args.vars.now) c.in_err-plain-in-Erpt.was c.from_residual-in_err-plain-in-Erpt.result c.from_residual-in_err-plain-in-Erpt.ensures _
 
-pub end_repeat-requires : goal.end_repeat-requires
-end_repeat-requires c = c.requires.1
+pub returns-in_ok-plain-in-Erpt : goal.returns-in_ok-plain-in-Erpt
+returns-in_ok-plain-in-Erpt c b vs =
+    carried-out (ap flow c.in-Erpt.is) c.args.words.now c.args.pc.0 c.args.vars.now (c.plain-in-Erpt.ensures c.args.vars.now) c.in_ok-plain-in-Erpt.was _ (c.end_repeat.ensures (length c.args.words.now) b vs)
 
-pub plain-requires-in-Rpt : goal.plain-requires-in-Rpt
-plain-requires-in-Rpt c = c.requires.0
+pub returns-in_err-plain-in-Rpt : goal.returns-in_err-plain-in-Rpt
+returns-in_err-plain-in-Rpt c b vs =
+    not-fetched (ap flow c.in-Rpt.is) c.args.words.now c.args.pc.0 c.args.vars.now (c.plain-in-Rpt.ensures c.args.vars.now) c.in_err-plain-in-Rpt.was c.from_residual-in_err-plain-in-Rpt.result c.from_residual-in_err-plain-in-Rpt.ensures _
 
-pub repeat-requires : goal.repeat-requires
-repeat-requires c = c.requires.1
+pub returns-in_ok-plain-in-Rpt : goal.returns-in_ok-plain-in-Rpt
+returns-in_ok-plain-in-Rpt c b vs =
+    carried-out (ap flow c.in-Rpt.is) c.args.words.now c.args.pc.0 c.args.vars.now (c.plain-in-Rpt.ensures c.args.vars.now) c.in_ok-plain-in-Rpt.was _ (c.repeat.ensures (length c.args.words.now) b vs)
 
-pub plain-requires-in-Rtrn : goal.plain-requires-in-Rtrn
-plain-requires-in-Rtrn c = c.requires.0
+pub returns-in_err-plain-in-Rtrn : goal.returns-in_err-plain-in-Rtrn
+returns-in_err-plain-in-Rtrn c b vs =
+    not-fetched (ap flow c.in-Rtrn.is) c.args.words.now c.args.pc.0 c.args.vars.now (c.plain-in-Rtrn.ensures c.args.vars.now) c.in_err-plain-in-Rtrn.was c.from_residual-in_err-plain-in-Rtrn.result c.from_residual-in_err-plain-in-Rtrn.ensures _
 
-pub come_back-requires : goal.come_back-requires
-come_back-requires c = c.requires.1
+pub returns-in_ok-plain-in-Rtrn : goal.returns-in_ok-plain-in-Rtrn
+returns-in_ok-plain-in-Rtrn c b vs =
+    carried-out (ap flow c.in-Rtrn.is) c.args.words.now c.args.pc.0 c.args.vars.now (c.plain-in-Rtrn.ensures c.args.vars.now) c.in_ok-plain-in-Rtrn.was _ (c.come_back.ensures (length c.args.words.now) b vs)
 
-pub word_long-requires : goal.word_long-requires
-word_long-requires c = c.requires.0
+pub returns-in_err-word_long-in-Jumpa : goal.returns-in_err-word_long-in-Jumpa
+returns-in_err-word_long-in-Jumpa c b vs =
+    not-fetched (ap flow c.in-Jumpa.is) c.args.words.now c.args.pc.0 c.args.vars.now (c.word_long.ensures c.args.vars.now) c.in_err-word_long-in-Jumpa.was c.from_residual-in_err-word_long-in-Jumpa.result c.from_residual-in_err-word_long-in-Jumpa.ensures _
 
-pub jump-requires : goal.jump-requires
-jump-requires c = c.requires.1.cells
+pub returns-in_ok-word_long-in-Jumpa : goal.returns-in_ok-word_long-in-Jumpa
+returns-in_ok-word_long-in-Jumpa c b vs =
+    carried-out (ap flow c.in-Jumpa.is) c.args.words.now c.args.pc.0 c.args.vars.now (c.word_long.ensures c.args.vars.now) c.in_ok-word_long-in-Jumpa.was _ (c.jump.ensures b vs (c.args.stack.now))
 
-pub plain-requires-in-Jumpr : goal.plain-requires-in-Jumpr
-plain-requires-in-Jumpr c = c.requires.0
+pub returns-in_err-plain-in-Jumpr : goal.returns-in_err-plain-in-Jumpr
+returns-in_err-plain-in-Jumpr c b vs =
+    not-fetched (ap flow c.in-Jumpr.is) c.args.words.now c.args.pc.0 c.args.vars.now (c.plain-in-Jumpr.ensures c.args.vars.now) c.in_err-plain-in-Jumpr.was c.from_residual-in_err-plain-in-Jumpr.result c.from_residual-in_err-plain-in-Jumpr.ensures _
 
-pub jump_by-requires : goal.jump_by-requires
-jump_by-requires c = c.requires.1.cells
+pub returns-in_ok-plain-in-Jumpr : goal.returns-in_ok-plain-in-Jumpr
+returns-in_ok-plain-in-Jumpr c b vs =
+    carried-out (ap flow c.in-Jumpr.is) c.args.words.now c.args.pc.0 c.args.vars.now (c.plain-in-Jumpr.ensures c.args.vars.now) c.in_ok-plain-in-Jumpr.was _ (c.jump_by.ensures b vs (c.args.stack.now))
 
-pub plain-requires-in-Calr : goal.plain-requires-in-Calr
-plain-requires-in-Calr c = c.requires.0
+pub returns-in_err-plain-in-Calr : goal.returns-in_err-plain-in-Calr
+returns-in_err-plain-in-Calr c b vs =
+    not-fetched (ap flow c.in-Calr.is) c.args.words.now c.args.pc.0 c.args.vars.now (c.plain-in-Calr.ensures c.args.vars.now) c.in_err-plain-in-Calr.was c.from_residual-in_err-plain-in-Calr.result c.from_residual-in_err-plain-in-Calr.ensures _
 
-pub call_by-requires : goal.call_by-requires
-call_by-requires c = c.requires.1
+pub returns-in_ok-plain-in-Calr : goal.returns-in_ok-plain-in-Calr
+returns-in_ok-plain-in-Calr c b vs =
+    carried-out (ap flow c.in-Calr.is) c.args.words.now c.args.pc.0 c.args.vars.now (c.plain-in-Calr.ensures c.args.vars.now) c.in_ok-plain-in-Calr.was _ (c.call_by.ensures b vs)
 
-pub variables-requires-in-Calrv : goal.variables-requires-in-Calrv
-variables-requires-in-Calrv c = (c.requires.0, omega arith, omega arith)
+pub returns-in_err-variables-in-Calrv : goal.returns-in_err-variables-in-Calrv
+returns-in_err-variables-in-Calrv c b vs =
+    not-fetched (ap flow c.in-Calrv.is) c.args.words.now c.args.pc.0 c.args.vars.now c.variables-in-Calrv.ensures c.in_err-variables-in-Calrv.was c.from_residual-in_err-variables-in-Calrv.result c.from_residual-in_err-variables-in-Calrv.ensures _
 
-pub call_by-requires-in-Calrv : goal.call_by-requires-in-Calrv
-call_by-requires-in-Calrv c = c.requires.1
-
-pub returns-in-Noop : goal.returns-in-Noop
-returns-in-Noop c = goes-stacks (ap flow c.in-Noop.is) c.args.words.now c.args.pc.0 c.args.vars.now (c.plain.ensures c.args.vars.now) c.requires.1 (c.noop.ensures (length c.args.words.now))
-
-pub returns-in-Eodl : goal.returns-in-Eodl
-returns-in-Eodl c = goes-stacks (ap flow c.in-Eodl.is) c.args.words.now c.args.pc.0 c.args.vars.now (c.plain-in-Eodl.ensures c.args.vars.now) c.requires.1 (c.end.ensures (length c.args.words.now))
-
-pub returns-in-Cal : goal.returns-in-Cal
-returns-in-Cal c = stacks (ap flow c.in-Cal.is) c.args.words.now c.args.pc.0 c.args.vars.now (c.long.ensures c.args.vars.now) c.call.ensures
-
-pub returns-in-Calv : goal.returns-in-Calv
-returns-in-Calv c = stacks (ap flow c.in-Calv.is) c.args.words.now c.args.pc.0 c.args.vars.now c.variables.ensures c.call-in-Calv.ensures
-
-pub returns-in-Erpt : goal.returns-in-Erpt
-returns-in-Erpt c = stacks (ap flow c.in-Erpt.is) c.args.words.now c.args.pc.0 c.args.vars.now (c.plain-in-Erpt.ensures c.args.vars.now) (c.end_repeat.ensures (length c.args.words.now))
-
-pub returns-in-Rpt : goal.returns-in-Rpt
-returns-in-Rpt c = stacks (ap flow c.in-Rpt.is) c.args.words.now c.args.pc.0 c.args.vars.now (c.plain-in-Rpt.ensures c.args.vars.now) (c.repeat.ensures (length c.args.words.now))
-
-pub returns-in-Rtrn : goal.returns-in-Rtrn
-returns-in-Rtrn c = stacks (ap flow c.in-Rtrn.is) c.args.words.now c.args.pc.0 c.args.vars.now (c.plain-in-Rtrn.ensures c.args.vars.now) (c.come_back.ensures (length c.args.words.now))
-
-pub returns-in-Jumpa : goal.returns-in-Jumpa
-returns-in-Jumpa c = goes-stacks (ap flow c.in-Jumpa.is) c.args.words.now c.args.pc.0 c.args.vars.now (c.word_long.ensures c.args.vars.now) c.requires.1 c.jump.ensures
-
-pub returns-in-Jumpr : goal.returns-in-Jumpr
-returns-in-Jumpr c = goes-stacks (ap flow c.in-Jumpr.is) c.args.words.now c.args.pc.0 c.args.vars.now (c.plain-in-Jumpr.ensures c.args.vars.now) c.requires.1 c.jump_by.ensures
-
-pub returns-in-Calr : goal.returns-in-Calr
-returns-in-Calr c = stacks (ap flow c.in-Calr.is) c.args.words.now c.args.pc.0 c.args.vars.now (c.plain-in-Calr.ensures c.args.vars.now) c.call_by.ensures
-
-pub returns-in-Calrv : goal.returns-in-Calrv
-returns-in-Calrv c = stacks (ap flow c.in-Calrv.is) c.args.words.now c.args.pc.0 c.args.vars.now c.variables-in-Calrv.ensures c.call_by-in-Calrv.ensures
+pub returns-in_ok-variables-in-Calrv : goal.returns-in_ok-variables-in-Calrv
+returns-in_ok-variables-in-Calrv c b vs =
+    carried-out (ap flow c.in-Calrv.is) c.args.words.now c.args.pc.0 c.args.vars.now c.variables-in-Calrv.ensures c.in_ok-variables-in-Calrv.was _ (c.call_by-in-Calrv.ensures b vs)

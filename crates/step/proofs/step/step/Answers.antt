@@ -1,73 +1,57 @@
 -- `step`: the word has its form, and its group does what the form must show.
-use Prim.Native.Nat.{ℕ, ◌<◌}
-use mathlib.Core.Path.{◌≡◌, sym, ap, ◌∙◌}
-use mathlib.Core.List.{List}
-use lib.ListN.{length}
-use lib.IntN.{ℤ}
-use Rattle.numbers.specs.declared.place.WordIndex.{WordIndex}
+use Rattle.std.proofs.Common.{◌≡◌, ℕ, List, Err, sym, ap, ◌∙◌}
 use Rattle.rules.specs.declared.opcode.Form.{Form}
 use Rattle.rules.specs.Table.{form_of}
 use Rattle.rules.specs.Meaning.{meaning}
 use Rattle.rules.specs.Operands.{at}
-use Rattle.lent.specs.Lent.{celled}
-use Rattle.step.specs.Steps.{Able}
-use Rattle.step.proofs.Stepping.{Here, step-20, reaches, drawable, stacked, step-21, step-sets, step-stacks, step-moves, step-draws}
+use Rattle.lent.specs.Lent.{look}
+use Rattle.lent.specs.Shown.{seen}
+use Rattle.step.proofs.Stepping.{reaches, positioned, stacked, step-20, step-21, is-step}
 use Rattle.step.proofs.step.step.Goals as goal
-
-index : {i j : WordIndex} → i ≡ j → i.0 ≡ j.0
-index e = ap (λ (i : WordIndex). i.0) e
-
-here : {w cs : List ℕ} {ps : List ℤ} {vs st p : List ℕ} {i : WordIndex} → Able w cs ps vs st p → i ≡ (celled cs).counter → i.0 < length w → Here w cs ps vs st p i.0
-here ready e inside = record { ready = ready; counter = index e; inside = inside }
 
 -- what the form means that was found
 means : (w : List ℕ) (i : ℕ) {g f : Form} → g ≡ form_of (at w i) → g ≡ f → meaning (form_of (at w i)) ≡ meaning f
 means w i e is = ap meaning (sym e ∙ is)
 
 pub returns-then-words-at : goal.returns-then-words-at
-returns-then-words-at c = step-20 c.requires (index c.counter-pc.ensures) c.if-words-at.true c.refuse.ensures
+returns-then-words-at c b =
+    let g = c.args in
+    ap (λ v. seen (Err v) (look b g.registers.now g.vars.now g.stack.now)) c.refused.ensures ∙ step-20 c.requires c.if-words-at.true b
 
 pub step-requires : goal.step-requires
-step-requires c =
-    let h = here c.requires c.counter-pc.ensures c.if-words-at.false in
-    (reaches h, stacked h)
+step-requires c = (reaches c.requires c.if-words-at.false, stacked c.requires)
 
 pub step-requires-in-Value : goal.step-requires-in-Value
-step-requires-in-Value c =
-    let h = here c.requires c.counter-pc.ensures c.if-words-at.false in
-    (reaches h, h.ready.cells)
+step-requires-in-Value c = reaches c.requires c.if-words-at.false
 
 pub step-requires-in-Pen : goal.step-requires-in-Pen
-step-requires-in-Pen c =
-    let h = here c.requires c.counter-pc.ensures c.if-words-at.false in
-    (reaches h, h.ready.cells, h.ready.points)
+step-requires-in-Pen c = reaches c.requires c.if-words-at.false
 
 pub step-requires-in-Paint : goal.step-requires-in-Paint
-step-requires-in-Paint c =
-    let h = here c.requires c.counter-pc.ensures c.if-words-at.false in
-    (reaches h, drawable h)
+step-requires-in-Paint c = (reaches c.requires c.if-words-at.false, positioned c.requires)
 
 pub returns-in-Unknown : goal.returns-in-Unknown
-returns-in-Unknown c =
-    step-21 (here c.requires c.counter-pc.ensures c.if-words-at.false) (means c.args.words.now c.counter-pc.result.0 c.form_of-form.ensures c.in-Unknown.is)
-    c.refuse-in-Unknown.ensures
+returns-in-Unknown c b =
+    let g = c.args in
+    ap (λ v. seen (Err v) (look b g.registers.now g.vars.now g.stack.now)) c.refused-in-Unknown.ensures
+    ∙ step-21 c.requires c.if-words-at.false (means g.words.now _ c.form_of.ensures c.in-Unknown.is) b
 
 pub returns-in-Flow : goal.returns-in-Flow
-returns-in-Flow c =
-    step-stacks (here c.requires c.counter-pc.ensures c.if-words-at.false) (means c.args.words.now c.counter-pc.result.0 c.form_of-form.ensures c.in-Flow.is)
-    c.step.ensures
+returns-in-Flow c b =
+    let g = c.args in
+    c.step.ensures b g.vars.now ∙ is-step c.requires c.if-words-at.false (means g.words.now _ c.form_of.ensures c.in-Flow.is) b
 
 pub returns-in-Value : goal.returns-in-Value
-returns-in-Value c =
-    step-sets (here c.requires c.counter-pc.ensures c.if-words-at.false) (means c.args.words.now c.counter-pc.result.0 c.form_of-form.ensures c.in-Value.is)
-    c.step-in-Value.ensures
+returns-in-Value c b =
+    let g = c.args in
+    c.step-in-Value.ensures b g.stack.now ∙ is-step c.requires c.if-words-at.false (means g.words.now _ c.form_of.ensures c.in-Value.is) b
 
 pub returns-in-Pen : goal.returns-in-Pen
-returns-in-Pen c =
-    step-moves (here c.requires c.counter-pc.ensures c.if-words-at.false) (means c.args.words.now c.counter-pc.result.0 c.form_of-form.ensures c.in-Pen.is)
-    c.step-in-Pen.ensures
+returns-in-Pen c b =
+    let g = c.args in
+    c.step-in-Pen.ensures b g.vars.now g.stack.now ∙ is-step c.requires c.if-words-at.false (means g.words.now _ c.form_of.ensures c.in-Pen.is) b
 
 pub returns-in-Paint : goal.returns-in-Paint
-returns-in-Paint c =
-    step-draws (here c.requires c.counter-pc.ensures c.if-words-at.false) (means c.args.words.now c.counter-pc.result.0 c.form_of-form.ensures c.in-Paint.is)
-    c.step-in-Paint.ensures
+returns-in-Paint c b =
+    let g = c.args in
+    c.step-in-Paint.ensures b g.vars.now g.stack.now ∙ is-step c.requires c.if-words-at.false (means g.words.now _ c.form_of.ensures c.in-Paint.is) b
