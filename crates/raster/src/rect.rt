@@ -3,7 +3,7 @@ ghost use Rattle.std.specs.Prelude.{◌≡◌, ◌<◌, ◌≤◌, ◌&&◌, ◌
 ghost use Rattle.raster.specs.Frame.{Coord, Sane};
 ghost use Rattle.raster.specs.Rects.{byte_b, inside_b, pane_rect, window_rect, clip_rect, overlap_of, rect_of, Placed, Seen};
 
-use crate::biased::{BIAS, Spot, biased, larger, shift, smaller};
+use crate::biased::{BIAS, Spot, biased, shift};
 use crate::frame::{Frame, Pane, Window};
 
 // Columns l to r of rows t to b, both ends inside: none where l is above r, or t above b.
@@ -63,10 +63,10 @@ fn overlap(a: Rect, b: Rect) -> Rect
     ensures { result ≡ overlap_of a b }
 {
     Rect {
-        l: larger(a.l, b.l),
-        t: larger(a.t, b.t),
-        r: smaller(a.r, b.r),
-        b: smaller(a.b, b.b),
+        l: a.l.max(b.l),
+        t: a.t.max(b.t),
+        r: a.r.min(b.r),
+        b: a.b.min(b.b),
     }
 }
 
@@ -86,16 +86,7 @@ pub fn rect_of(f: Frame) -> Rect
 fn inside(r: Rect, p: Spot) -> bool
     ensures { result ≡ inside_b r p.x p.y }
 {
-    if p.x < r.l {
-        return false;
-    }
-    if r.r < p.x {
-        return false;
-    }
-    if p.y < r.t {
-        return false;
-    }
-    p.y <= r.b
+    (r.l..=r.r).contains(&p.x) && (r.t..=r.b).contains(&p.y)
 }
 
 // x is one of lo to hi, by one comparison: from below lo it wraps to above them all.
@@ -103,7 +94,7 @@ pub fn among(lo: u32, hi: u32, x: u32) -> bool
     requires { lo ≤ hi }
     ensures { result ≡ (nat_le lo x && nat_le x hi) }
 {
-    std::num::wrapping_sub_u32(x, lo) <= hi - lo
+    x.wrapping_sub(lo) <= hi - lo
 }
 
 // The mode lets the dot through.
@@ -111,10 +102,7 @@ fn in_clip(f: Frame, p: Spot) -> bool
     requires { Sane f }
     ensures { result ≡ (f.mode == 0 || inside_b (clip_rect f) p.x p.y) }
 {
-    if f.mode == 0 {
-        return true;
-    }
-    inside(clip_rect(f), p)
+    f.mode == 0 || inside(clip_rect(f), p)
 }
 
 // The dot is drawable: what a single dot asks in place of the rectangle. No pane is empty.
@@ -126,10 +114,7 @@ pub fn visible(f: Frame, p: Spot) -> bool
         return false;
     }
     let pane = pane_rect(f.bounds.pane);
-    if !among(pane.l, pane.r, p.x) {
-        return false;
-    }
-    among(pane.t, pane.b, p.y)
+    among(pane.l, pane.r, p.x) && among(pane.t, pane.b, p.y)
 }
 
 // The dot's byte on a screen of w columns.
