@@ -4,7 +4,7 @@ ghost use Rattle.raster.specs.Rects.{pixels, in_rect, Room};
 ghost use Rattle.raster.specs.Parts.{row_part};
 ghost use Rattle.circles.specs.Reaches.{pair_b};
 
-use raster::biased::{Spot, larger, less, smaller};
+use raster::biased::Spot;
 use raster::part::row_part;
 use raster::rect::{Rect, among, store};
 
@@ -29,10 +29,10 @@ pub fn pair(screen: &mut [u8], w: u32, r: Rect, y: u32, d: u32, x0: u32, x1: u32
     requires t_le_b { (r.t ≤ r.b) × (y < 131072) × (d < 32768) }
     ensures { screen.new ≡ pixels w (λ i j. in_rect r i j && pair_b y d x0 x1 i j) c screen.old }
 {
-    let a = larger(r.l, x0);
-    let b = smaller(r.r, x1);
+    let a = r.l.max(x0);
+    let b = r.r.min(x1);
     if a <= b {
-        row_within(screen, w, r, less(y, d), a, b, c);
+        row_within(screen, w, r, y.saturating_sub(d), a, b, c);
         if 0 < d {
             row_within(screen, w, r, y + d, a, b, c);
         }

@@ -16,20 +16,6 @@ row lo hi y e h =
     let t : T (leb lo y && leb y hi) = subst T (sym h ∙ e) tt in
     (leb→le lo y (left (leb lo y) (leb y hi) t), leb→le y hi (right (leb lo y) (leb y hi) t))
 
-pub store-requires : goal.store-requires
-store-requires c =
-    let g = c.args in
-    let p = c.requires.t_le_b in
-    let y = row g.r.t g.r.b g.y c.among.ensures c.if-among.true in
-    seen g.w g.r (record { x = g.x0; y = g.y }) g.screen.now c.requires.room (is-inside g.r g.x0 g.y p.1 (omega (arith, p)) y.0 y.1)
-
-pub row_part-requires : goal.row_part-requires
-row_part-requires c =
-    let g = c.args in
-    let p = c.requires.t_le_b in
-    let y = row g.r.t g.r.b g.y c.among.ensures c.if-among.true in
-    part_room g.w g.r g.y g.x0 g.x1 g.screen.now c.requires.room p.1 p.3 y.0 y.1
-
 pub returns-then-x0-x1 : goal.returns-then-x0-x1
 returns-then-x0-x1 c =
     let g = c.args in
