@@ -1,4 +1,5 @@
-// The two rows at one distance from a circle's centre.
+// The two rows at one distance from a circle's centre. Screen, width, rectangle and colour are four parameters, as in `raster`: a struct
+// of them would hold a `&mut`, and each contract would have to say besides that the other three stay.
 ghost use Rattle.std.specs.Prelude.{◌≡◌, ◌&&◌, ◌<◌, ◌≤◌};
 ghost use Rattle.raster.specs.Rects.{pixels, in_rect, Room};
 ghost use Rattle.raster.specs.Parts.{row_part};

@@ -1,4 +1,5 @@
-// How far a circle reaches in a row: the first column, counted from its centre, that is outside it.
+// How far a circle reaches in a row: the first column, counted from its centre, that is outside it. `Reaching` is no type, since the
+// reach of one row is asked in the next, of whose distance it says something too.
 ghost use Rattle.std.specs.Prelude.{◌+◌, ◌-◌, ◌*◌, ◌<◌, ◌≤◌};
 ghost use Rattle.circles.specs.Reaches.{Past, Reaching};
 

@@ -10,7 +10,7 @@ use crate::dots::Dot;
 pub const BIAS: u32 = 65536;
 
 // A dot, biased.
-#[derive(Clone, Copy)]
+#[derive(Clone, Copy, PartialEq, Eq)]
 pub struct Spot {
     pub x: u32,
     pub y: u32,
@@ -43,6 +43,7 @@ pub fn shift(p: Spot, o: Dot) -> Spot
     Spot { x, y }
 }
 
+// This and the next three, and `wide`, are the library's methods, under the names that `lines` and `contains` call.
 pub fn larger(a: u32, b: u32) -> u32
     ensures { result ≡ max a b }
 {
