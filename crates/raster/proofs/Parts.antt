@@ -1,16 +1,16 @@
 -- Laws of parts whose bytes lie side by side: a run of bytes, a part of a row, and rows as wide as the screen.
-use Rattle.std.proofs.Common.{rules, take, drop, length-take, length-drop, ◌≡◌, ℕ, ◌+◌, ◌-◌, ◌*◌, ◌/◌, ◌%◌, ◌<◌, ◌≤◌, max, Bool, ◌&&◌, ◌||◌, T, eqb, ltb, leb, List, length, replicate, get_or, cond, true, sym, ap, ◌∙◌, subst, le_refl, mul-le-mul_right, mod-lt, div-lt_iff_lt-mul, mul-le-mul, le-div_iff_mul-le, arith, le→leb, eqb→eq, ltb→lt, lt→ltb, leb→le}
+use Rattle.std.proofs.Common.{rules, take, drop, length-take, length-drop, ◌≡◌, ℕ, ◌+◌, ◌-◌, ◌*◌, ◌/◌, ◌%◌, ◌<◌, ◌≤◌, T, ltb, leb, List, length, replicate, get_or, cond, true, ap, ◌∙◌, subst, mod-lt, div-lt_iff_lt-mul, le-div_iff_mul-le, arith, le→leb, ltb→lt, lt→ltb, leb→le}
 use native.Mathlib.Decide.{dec_lt}
 use borrow.Rule.Slice.PartMut.{put_mid}
 use Rattle.std.proofs.lemmas.List.{places}
 use Rattle.raster.specs.declared.rect.Rect.{Rect}
 use Rattle.raster.specs.Paint.{recolour}
 use Rattle.raster.specs.Biased.{bias}
-use Rattle.raster.specs.Rects.{pixels, in_rect, Room, Seen}
+use Rattle.raster.specs.Rects.{pixels, in_rect, Room}
 use Rattle.raster.specs.Parts.{between, row_part}
 use Rattle.raster.proofs.Tests.{same, both, left, right, T_false}
 use Rattle.raster.proofs.Recolour.{none, agree, only}
-use Rattle.raster.proofs.Pixels.{column, row, byte, inside_is, is-inside, seen}
+use Rattle.raster.proofs.Pixels.{column, row, byte, inside_is, is-inside}
 
 -- ---- a run of bytes
 between_is : (a e k : ℕ) → T (between a e k) → (a ≤ k) × (k < e)
@@ -41,10 +41,6 @@ no-pixel w r c s n =
 
 -- ---- a part of a row
 module _ (w y x0 x1 : ℕ) (s : List ℕ) (h : Room w (row_part y x0 x1) s) (l : x0 ≤ x1) where
-  -- the part's last dot lies within the screen
-  pub last-seen : Seen w (record { x = x1; y = y }) s
-  last-seen = seen w (row_part y x0 x1) (record { x = x1; y = y }) s h (is-inside (row_part y x0 x1) x1 y l (le_refl x1) (le_refl y) (le_refl y))
-
   pub as_bytes : (c : ℕ) → recolour (between ((y - bias) * w + (x0 - bias)) ((y - bias) * w + (x1 + 1 - bias))) c s ≡ pixels w (in_rect (row_part y x0 x1)) c s
   as_bytes c =
       agree (between from past) (λ k. in_rect (row_part y x0 x1) (k % w) (k / w)) c s
@@ -76,29 +72,8 @@ module _ (w y x0 x1 : ℕ) (s : List ℕ) (h : Room w (row_part y x0 x1) s) (l :
           let b : (y - bias) * w + k % w ≡ k = subst (λ (m : ℕ). m * w + k % w ≡ k) j (byte w k) in
           is-between from past k (omega (arith, h.from_left)) (omega (arith, h.from_left))
 
--- a part of a row of r has room
-pub part_room : (w : ℕ) (r : Rect) (y x0 x1 : ℕ) (s : List ℕ) → Room w r s → r.l ≤ x0 → x1 ≤ r.r → r.t ≤ y → y ≤ r.b → Room w (row_part y x0 x1) s
-part_room w r y x0 x1 s h lo hi k l =
-    record {
-      narrow = h.narrow;
-      from_left = omega (arith, h.from_left);
-      from_top = omega (arith, h.from_top);
-      to_right = omega (arith, h.to_right);
-      to_bottom = omega (arith, h.to_bottom);
-      down = omega (arith, h.down, mul-le-mul_right w (lower r.b y l));
-    }
-  where
-    lower : (b y : ℕ) → y ≤ b → y + 1 - bias ≤ b + 1 - bias
-    lower b y l = omega arith
-
 -- ---- rows as wide as the screen
 module _ (w : ℕ) (r : Rect) (s : List ℕ) (h : Room w r s) where
-  pub rows-small : r.t ≤ r.b → ((r.t - bias) * w ≤ 2048 * 2048) × ((r.b + 1 - bias) * w ≤ 2048 * 2048)
-  rows-small l =
-      let t : r.t - bias ≤ 2048 = omega (arith, h.to_bottom) in
-      let b : r.b + 1 - bias ≤ 2048 = omega (arith, h.to_bottom) in
-      (mul-le-mul t h.narrow, mul-le-mul b h.narrow)
-
   pub rows-as-bytes : 0 < w → r.l ≡ bias → r.r + 1 ≡ w + bias → (c : ℕ)
       → recolour (between ((r.t - bias) * w) ((r.b + 1 - bias) * w)) c s ≡ pixels w (in_rect r) c s
   rows-as-bytes hw hl hr c =

@@ -1,5 +1,4 @@
 -- `circle_in`: nothing where the corners' rectangle is empty.
-use mathlib.Core.Bool.{◌&&◌}
 use Prim.Native.Nat.{◌+◌, ◌≤◌}
 use native.Mathlib.Omega.{arith}
 use Rattle.raster.specs.Biased.{bias}

@@ -2,11 +2,8 @@
 use mathlib.Core.Path.{◌≡◌, sym, ◌∙◌, subst}
 use mathlib.Core.Bool.{Bool, true, ◌&&◌}
 use Prim.Native.Nat.{ℕ, ◌≤◌}
-use native.Mathlib.Omega.{arith}
 use lib.Dec.{T, leb, leb→le, le→leb}
 use Rattle.raster.proofs.Tests.{both, left, right}
-use Rattle.raster.proofs.Pixels.{is-inside, seen}
-use Rattle.raster.proofs.Parts.{part_room}
 use Rattle.circles.proofs.Pairs.{part-within, dot-within, no_part}
 use Rattle.circles.proofs.pair.row_within.Goals as goal
 

@@ -1,7 +1,5 @@
 -- `reach_at`: nowhere beyond the radius, else by the root, looked for from 0.
-use native.Mathlib.Omega.{arith}
-use Rattle.circles.proofs.Squares.{square_le}
-use Rattle.circles.proofs.Reaches.{past-small, radius-square, left_over, reaches, nowhere}
+use Rattle.circles.proofs.Reaches.{past-small, left_over, reaches}
 use Rattle.circles.proofs.reach.reach_at.Goals as goal
 
 pub returns : goal.returns

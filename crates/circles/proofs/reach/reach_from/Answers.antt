@@ -1,7 +1,5 @@
 -- `reach_from`: the rows one further out reach no farther, so that the root is looked for from there.
-use native.Mathlib.Omega.{arith}
-use Rattle.circles.proofs.Squares.{square_le}
-use Rattle.circles.proofs.Reaches.{past-small, radius-square, left_over, past_one, reaches, reach-further}
+use Rattle.circles.proofs.Reaches.{past-small, left_over, past_one, reaches}
 use Rattle.circles.proofs.reach.reach_from.Goals as goal
 
 pub returns : goal.returns
