@@ -7,9 +7,10 @@ ghost use Rattle.raster.specs.Biased.{bias, gap_b, NearB};
 ghost use Rattle.raster.specs.Rects.{pixels, in_rect, Room};
 ghost use Rattle.circles.specs.Circle.{disc, outline, circle};
 ghost use Rattle.circles.specs.Reaches.{circle_of, circle_b, Reaching, farthest, nearest, cornered};
+ghost use Rattle.circles.specs.Sheets.{Ready, painted};
 
-use crate::pair::pair;
 use crate::reach::{reach_at, reach_from};
+use crate::sheet::Sheet;
 use raster::biased::Spot;
 use raster::dots::Dot;
 use raster::frame::Frame;
@@ -45,53 +46,34 @@ fn nearest(r: Rect, y: u32) -> u32
 }
 
 // The rows d from the centre, where the circle reaches as far as e, and as far as g one row further out.
-fn rows_at<const FILLED: bool>(
-    screen: &mut [u8],
-    w: u32,
-    r: Rect,
-    k: Round,
-    d: u32,
-    e: u32,
-    g: u32,
-    c: u8,
-)
-    requires room { Room w r screen.old }
-    requires t_le_b { (r.t ≤ r.b) × (d < 32768) × (1 ≤ e) }
+fn rows_at<const FILLED: bool>(s: &mut Sheet, k: Round, d: u32, e: u32, g: u32)
+    requires ready { Ready s.old }
+    requires small { (d < 32768) × (1 ≤ e) }
     requires reaching { Reaching k.q d e × Reaching k.q (d + 1) g }
-    ensures { screen.new
-        ≡ pixels w (λ i j. in_rect r i j && (eqb (gap_b k.p.y (j + bias)) d && circle_b FILLED k.p k.q i j)) c screen.old }
+    ensures { s.new ≡ painted s.old (λ i j. eqb (gap_b k.p.y (j + bias)) d && circle_b FILLED k.p k.q i j) }
 {
     let x = k.p.x;
     let h = e - 1;
     if FILLED {
-        pair(screen, w, r, k.p.y, d, x.saturating_sub(h), x + h, c);
+        s.pair(k.p.y, d, x.saturating_sub(h), x + h);
     } else {
         let i = h.min(g);
-        pair(
-            screen,
-            w,
-            r,
-            k.p.y,
-            d,
-            x.saturating_sub(h),
-            x.saturating_sub(i),
-            c,
-        );
-        pair(screen, w, r, k.p.y, d, x + i, x + h, c);
+        s.pair(k.p.y, d, x.saturating_sub(h), x.saturating_sub(i));
+        s.pair(k.p.y, d, x + i, x + h);
     }
 }
 
-// The circle's dots in the rows of r.
-fn circle_rows<const FILLED: bool>(screen: &mut [u8], w: u32, r: Rect, k: Round, c: u8)
-    requires room { Room w r screen.old }
-    requires t_le_b { r.t ≤ r.b }
-    ensures { screen.new ≡ pixels w (λ i j. in_rect r i j && circle_b FILLED k.p k.q i j) c screen.old }
+// The circle's dots.
+fn circle_rows<const FILLED: bool>(s: &mut Sheet, k: Round)
+    requires { Ready s.old }
+    ensures { s.new ≡ painted s.old (circle_b FILLED k.p k.q) }
 {
-    let far = farthest(r, k.p.y, k.q) + 1;
+    let y = k.p.y;
+    let far = farthest(s.r, y, k.q) + 1;
     let mut g = reach_at(k.q, far);
-    for d in (nearest(r, k.p.y)..far).rev() {
+    for d in (nearest(s.r, y)..far).rev() {
         let e = reach_from(k.q, d, g);
-        rows_at::<FILLED>(screen, w, r, k, d, e, g, c);
+        rows_at::<FILLED>(s, k, d, e, g);
         g = e;
     }
 }
@@ -111,7 +93,8 @@ fn circle_in<const FILLED: bool>(screen: &mut [u8], w: u32, low: Spot, high: Spo
             r: high.x,
             b: high.y,
         };
-        circle_rows::<FILLED>(screen, w, r, k, c);
+        let mut s = Sheet { screen, w, r, c };
+        circle_rows::<FILLED>(&mut s, k);
     }
 }
 
@@ -127,7 +110,7 @@ fn draw<const FILLED: bool>(screen: &mut [u8], f: Frame, p: Spot, q: u32, c: u8)
     circle_in::<FILLED>(screen, f.bounds.width, low, high, Round { p, q }, c);
 }
 
-// The drawable dots of the filled circle around p with the radius q.
+// The drawable dots of the filled circle around p with the radius q. Two names, as a caller that says `true` or `false` says less.
 pub fn draw_disc(screen: &mut [u8], f: Frame, p: Spot, q: u32, c: u8)
     requires fitting { Fitting f screen.old }
     requires near_b { NearB p × (q < 32768) }

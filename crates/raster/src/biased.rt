@@ -23,6 +23,7 @@ pub fn biased(z: i32) -> u32
     (z + BIAS as i32) as u32
 }
 
+// No `From`, which would take a dot that is no coordinate too.
 pub fn spot_of(d: Dot) -> Spot
     requires { Coord d.x × Coord d.y }
     ensures { result ≡ spot_of d }

@@ -1,6 +1,6 @@
 // Parts of the screen whose bytes lie side by side: painted with no test for each dot.
-// Bytes and width are two parameters: a struct of both would hold a `&mut`, and each contract would have to say besides that width and
-// reference stay.
+// Bytes and width are two parameters: each function here hands them on once, and who has many steps to paint, as `circles`, holds them in
+// a struct of its own.
 ghost use Rattle.std.specs.Prelude.{◌≡◌, ◌+◌, ◌<◌, ◌≤◌, length};
 ghost use Rattle.raster.specs.Paint.{recolour};
 ghost use Rattle.raster.specs.Biased.{bias};
