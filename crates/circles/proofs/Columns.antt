@@ -12,6 +12,10 @@ use Rattle.raster.proofs.Tests.{same, both, left, right, yes-or, or_yes, or_elim
 use Rattle.circles.specs.Reaches.{reach, circle_at, circle_b, Reaching, pair_b}
 use Rattle.circles.proofs.Squares.{le-square}
 
+-- a const parameter's test, of the number that it is in a proof
+abbrev pub flag : ℕ → Bool
+flag n = not (eqb n 0)
+
 -- ---- columns z by their distance from column x, which is not 0
 module _ (x z : ℕ) where
   -- fewer than e

@@ -7,4 +7,5 @@ pub mod Distances
 pub mod Reaches
 pub mod Columns
 pub mod Pairs
+pub mod Sheets
 pub mod Nearer

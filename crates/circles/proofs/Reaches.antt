@@ -1,5 +1,5 @@
 -- How far a circle reaches in a row: as many columns as there are squares that, with the row's own, are not above the radius'.
-use mathlib.Core.Path.{◌≡◌, sym, ◌∙◌, subst}
+use mathlib.Core.Path.{sym, ◌∙◌}
 use Prim.Native.Nat.{ℕ, zero, suc, ◌+◌, ◌-◌, ◌*◌, ◌<◌, ◌≤◌}
 use native.Mathlib.Omega.{arith}
 use borrow.Author.Tests.{lt-leb}
@@ -19,10 +19,6 @@ module _ (n e : ℕ) (p : Past n e) where
       by : (e : ℕ) → n < e * e → 1 ≤ e
       by zero h = absurd (omega arith)
       by (suc e) h = omega arith
-
--- one more, where its square is not above n
-pub past_next : (n e : ℕ) → e * e ≤ n → (e + 1 - 1) * (e + 1 - 1) ≤ n
-past_next n e h = let same : e + 1 - 1 ≡ e = omega arith in rw same h
 
 -- ---- the square of a radius, and what a row leaves of it
 pub radius-square : (q : ℕ) → q < 32768 → q * q ≤ 32767 * 32767
@@ -58,13 +54,3 @@ module _ (q b : ℕ) where
         columns = λ a. let s = square-lt q b l in lt-leb (a * a + b * b) (q * q) (omega arith) ∙ sym (T_false (ltb a 0) (λ t. let m = ltb→lt a 0 t in omega arith));
         small = omega arith;
       }
-
--- the rows one further out reach no farther
-pub reach-further : (q b g : ℕ) → Reaching q (b + 1) g → (g - 1) * (g - 1) ≤ q * q - b * b
-reach-further q b zero r = omega arith
-reach-further q b (suc g) r =
-    let t : T (reach q g (b + 1)) = subst T (sym (r.columns g)) (lt→ltb g (suc g) (omega arith)) in
-    let s = leb→le (g * g + (b + 1) * (b + 1)) (q * q) t in
-    let m = square_le b (b + 1) (omega arith) in
-    let same : suc g - 1 ≡ g = omega arith in
-    rw same (omega arith)

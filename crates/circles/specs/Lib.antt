@@ -3,3 +3,4 @@
 pub mod Circle
 -- What only functions inside the box promise:
 pub mod Reaches
+pub mod Sheets

@@ -1,14 +1,16 @@
 -- Laws of parts whose bytes lie side by side: a run of bytes, a part of a row, and rows as wide as the screen.
-use Rattle.std.proofs.Common.{◌≡◌, ℕ, ◌+◌, ◌-◌, ◌*◌, ◌/◌, ◌%◌, ◌<◌, ◌≤◌, max, Bool, ◌&&◌, ◌||◌, T, eqb, ltb, leb, List, set, sym, ap, ◌∙◌, subst, le_refl, mul-le-mul_right, mod-lt, div-lt_iff_lt-mul, mul-le-mul, le-div_iff_mul-le, arith, le→leb, eqb→eq, ltb→lt, lt→ltb, leb→le}
-use lib.Dec.{eqb_refl}
+use Rattle.std.proofs.Common.{rules, take, drop, length-take, length-drop, ◌≡◌, ℕ, ◌+◌, ◌-◌, ◌*◌, ◌/◌, ◌%◌, ◌<◌, ◌≤◌, T, ltb, leb, List, length, replicate, get_or, cond, true, ap, ◌∙◌, subst, mod-lt, div-lt_iff_lt-mul, le-div_iff_mul-le, arith, le→leb, ltb→lt, lt→ltb, leb→le}
+use native.Mathlib.Decide.{dec_lt}
+use borrow.Rule.Slice.PartMut.{put_mid}
+use Rattle.std.proofs.lemmas.List.{places}
 use Rattle.raster.specs.declared.rect.Rect.{Rect}
 use Rattle.raster.specs.Paint.{recolour}
 use Rattle.raster.specs.Biased.{bias}
-use Rattle.raster.specs.Rects.{pixels, in_rect, Room, Seen}
+use Rattle.raster.specs.Rects.{pixels, in_rect, Room}
 use Rattle.raster.specs.Parts.{between, row_part}
-use Rattle.raster.proofs.Tests.{same, both, left, right, and-or, lt-next}
-use Rattle.raster.proofs.Recolour.{none, agree, twice, one}
-use Rattle.raster.proofs.Pixels.{column, row, byte, inside_is, is-inside, seen}
+use Rattle.raster.proofs.Tests.{same, both, left, right, T_false}
+use Rattle.raster.proofs.Recolour.{none, agree, only}
+use Rattle.raster.proofs.Pixels.{column, row, byte, inside_is, is-inside}
 
 -- ---- a run of bytes
 between_is : (a e k : ℕ) → T (between a e k) → (a ≤ k) × (k < e)
@@ -17,23 +19,20 @@ between_is a e k t = (leb→le a k (left (leb a k) (ltb k e) t), ltb→lt k e (r
 is-between : (a e k : ℕ) → a ≤ k → k < e → T (between a e k)
 is-between a e k p q = both (leb a k) (ltb k e) (le→leb a k p) (lt→ltb k e q)
 
-pub no_byte : (a c : ℕ) (s : List ℕ) → s ≡ recolour (between a a) c s
-no_byte a c s = none (between a a) c s (λ k l t. let p = between_is a a k t in omega arith)
+-- a fill of these bytes
+pub filled : (a e c : ℕ) (s ys : List ℕ) → a ≤ e → e ≤ length s → ys ≡ replicate (length (take (e - a) (drop a s))) c → put_mid a (e - a) s ys ≡ recolour (between a e) c s
+filled a e c s ys l m p = rw (p ∙ ap (λ (n : ℕ). replicate n c) many) (only (between a e) c s (put_mid a (e - a) s (replicate (e - a) c)) (long) (λ j h. by j h (dec_lt j a) (dec_lt j e)))
+  where
+    many : length (take (e - a) (drop a s)) ≡ e - a
+    many = omega (arith, length-take (e - a) (drop a s), length-drop a s)
 
-pub byte_more : (a i c : ℕ) (s : List ℕ) → a ≤ i → set (recolour (between a i) c s) i c ≡ recolour (between a (i + 1)) c s
-byte_more a i c s h =
-    one (λ k. leb a k && eqb k i) c (recolour (between a i) c s) i (both (leb a i) (eqb i i) (le→leb a i h) (eqb_refl i))
-    (λ k l t. eqb→eq k i (right (leb a k) (eqb k i) t))
-    ∙ twice (between a i) (λ k. leb a k && eqb k i) c s
-    ∙ agree (λ k. between a i k || (leb a k && eqb k i)) (between a (i + 1)) c s
-    (λ k l. sym (and-or (leb a k) (ltb k i) (eqb k i)) ∙ ap (λ (b : Bool). leb a k && b) (lt-next k i))
+    long : length (put_mid a (e - a) s (replicate (e - a) c)) ≡ length s
+    long = search (rules, places)
 
-pub every_byte : (a i e c : ℕ) (s : List ℕ) → e ≤ i → i ≤ max a e → recolour (between a i) c s ≡ recolour (between a e) c s
-every_byte a i e c s h h' =
-    agree (between a i) (between a e) c s
-    (λ k l. same (between a i k) (between a e k)
-    (λ t. let p = between_is a i k t in is-between a e k (omega arith) (omega arith))
-    (λ t. let p = between_is a e k t in is-between a i k (omega arith) (omega arith)))
+    by : (j : ℕ) → j < length s → Dec (j < a) → Dec (j < e) → get_or (put_mid a (e - a) s (replicate (e - a) c)) j 0 ≡ cond (between a e j) c (get_or s j 0)
+    by j h (yes u) d = rw (T_false (between a e j) (λ t. let q = between_is a e j t in omega arith)) (search (rules, places))
+    by j h (no u) (yes v) = rw (same (between a e j) true (λ _. tt) (λ _. is-between a e j (omega arith) v)) (search (rules, places))
+    by j h (no u) (no v) = rw (T_false (between a e j) (λ t. let q = between_is a e j t in omega arith)) (search (rules, places))
 
 -- a rectangle with no column or no row has no pixel
 pub no-pixel : (w : ℕ) (r : Rect) (c : ℕ) (s : List ℕ) → ((r.l ≤ r.r) × (r.t ≤ r.b) → ⊥) → s ≡ pixels w (in_rect r) c s
@@ -42,10 +41,6 @@ no-pixel w r c s n =
 
 -- ---- a part of a row
 module _ (w y x0 x1 : ℕ) (s : List ℕ) (h : Room w (row_part y x0 x1) s) (l : x0 ≤ x1) where
-  -- the part's last dot lies within the screen
-  pub last-seen : Seen w (record { x = x1; y = y }) s
-  last-seen = seen w (row_part y x0 x1) (record { x = x1; y = y }) s h (is-inside (row_part y x0 x1) x1 y l (le_refl x1) (le_refl y) (le_refl y))
-
   pub as_bytes : (c : ℕ) → recolour (between ((y - bias) * w + (x0 - bias)) ((y - bias) * w + (x1 + 1 - bias))) c s ≡ pixels w (in_rect (row_part y x0 x1)) c s
   as_bytes c =
       agree (between from past) (λ k. in_rect (row_part y x0 x1) (k % w) (k / w)) c s
@@ -77,29 +72,8 @@ module _ (w y x0 x1 : ℕ) (s : List ℕ) (h : Room w (row_part y x0 x1) s) (l :
           let b : (y - bias) * w + k % w ≡ k = subst (λ (m : ℕ). m * w + k % w ≡ k) j (byte w k) in
           is-between from past k (omega (arith, h.from_left)) (omega (arith, h.from_left))
 
--- a part of a row of r has room
-pub part_room : (w : ℕ) (r : Rect) (y x0 x1 : ℕ) (s : List ℕ) → Room w r s → r.l ≤ x0 → x1 ≤ r.r → r.t ≤ y → y ≤ r.b → Room w (row_part y x0 x1) s
-part_room w r y x0 x1 s h lo hi k l =
-    record {
-      narrow = h.narrow;
-      from_left = omega (arith, h.from_left);
-      from_top = omega (arith, h.from_top);
-      to_right = omega (arith, h.to_right);
-      to_bottom = omega (arith, h.to_bottom);
-      down = omega (arith, h.down, mul-le-mul_right w (lower r.b y l));
-    }
-  where
-    lower : (b y : ℕ) → y ≤ b → y + 1 - bias ≤ b + 1 - bias
-    lower b y l = omega arith
-
 -- ---- rows as wide as the screen
 module _ (w : ℕ) (r : Rect) (s : List ℕ) (h : Room w r s) where
-  pub rows-small : r.t ≤ r.b → ((r.t - bias) * w ≤ 2048 * 2048) × ((r.b + 1 - bias) * w ≤ 2048 * 2048)
-  rows-small l =
-      let t : r.t - bias ≤ 2048 = omega (arith, h.to_bottom) in
-      let b : r.b + 1 - bias ≤ 2048 = omega (arith, h.to_bottom) in
-      (mul-le-mul t h.narrow, mul-le-mul b h.narrow)
-
   pub rows-as-bytes : 0 < w → r.l ≡ bias → r.r + 1 ≡ w + bias → (c : ℕ)
       → recolour (between ((r.t - bias) * w) ((r.b + 1 - bias) * w)) c s ≡ pixels w (in_rect r) c s
   rows-as-bytes hw hl hr c =

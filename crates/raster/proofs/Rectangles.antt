@@ -158,14 +158,3 @@ room f s h = by (eqb f.mode 0)
           to_bottom = omega (arith, v);
           down = rows (min (f.bounds.pane.bottom + bias) (clip_rect f).b + 1 - bias) (omega (arith, v));
         }
-
-pub same-room : (w : ℕ) (r : Rect) (s t : List ℕ) → length t ≡ length s → Room w r s → Room w r t
-same-room w r s t e h =
-    record {
-      narrow = h.narrow;
-      from_left = h.from_left;
-      from_top = h.from_top;
-      to_right = h.to_right;
-      to_bottom = h.to_bottom;
-      down = omega (arith, h.down);
-    }

@@ -7,7 +7,7 @@ use Rattle.raster.specs.declared.dots.Dot.{Dot}
 use Rattle.raster.specs.declared.biased.Spot.{Spot}
 use Rattle.raster.specs.Shapes.{shifted}
 use Rattle.raster.specs.Frame.{Word, Coord}
-use Rattle.raster.specs.Biased.{bias, biased, spot_of, dot_of, WordB, NearB, shifted_b}
+use Rattle.raster.specs.Biased.{bias, biased, spot_of, dot_of, WordB, shifted_b}
 use Rattle.raster.proofs.Coordinates.{sub-ge, sub-lt, biased-down, dot-back, plus, minus}
 
 pub word-coord : (z : ℤ) → Word z → Coord z
@@ -17,13 +17,6 @@ word-coord z h = record { small = omega (arith, h.small) }
 word-biased : (z : ℤ) → Word z → (32768 ≤ biased z) × (biased z < 98304)
 word-biased (pos n) h = let l = h.small in (omega arith, omega arith)
 word-biased (negsuc n) h = let l = h.small in (omega arith, omega arith)
-
--- with another, which is given biased, at least the bias
-pub sum-biased : (n : ℕ) (z : ℤ) → Word (sub_ℕ n bias) → Word z → (bias ≤ n + biased z) × (n + biased z < 196608)
-sum-biased n z h k =
-    let a : (32768 ≤ n) × (n < 98304) = rw (biased-down n) at (word-biased (sub_ℕ n bias) h) in
-    let b = word-biased z k in
-    (omega (arith, a, b), omega (arith, a, b))
 
 -- a dot of signed words, biased and down again
 pub word_back : (d : Dot) → Word d.x × Word d.y → dot_of (spot_of d) ≡ d
@@ -66,8 +59,3 @@ module _ (p : Spot) (o : Dot) (h : WordB p) (k : Word o.x × Word o.y) where
 
   pub shifted_back : dot_of (shifted_b p o) ≡ shifted (dot_of p) o
   shifted_back = λ i. record { x = axis p.x o.x h.0 k.0 i; y = axis p.y o.y h.1 k.1 i }
-
-  pub near-shifted : NearB (shifted_b p o)
-  near-shifted =
-      subst⁻¹ (λ (d : Dot). Coord d.x × Coord d.y) shifted_back
-      (sum-coord (dot_of p).x o.x h.0 k.0, sum-coord (dot_of p).y o.y h.1 k.1)

@@ -10,7 +10,7 @@ use crate::dots::Dot;
 pub const BIAS: u32 = 65536;
 
 // A dot, biased.
-#[derive(Clone, Copy)]
+#[derive(Clone, Copy, PartialEq, Eq)]
 pub struct Spot {
     pub x: u32,
     pub y: u32,
@@ -23,6 +23,7 @@ pub fn biased(z: i32) -> u32
     (z + BIAS as i32) as u32
 }
 
+// No `From`, which would take a dot that is no coordinate too.
 pub fn spot_of(d: Dot) -> Spot
     requires { Coord d.x × Coord d.y }
     ensures { result ≡ spot_of d }
@@ -43,29 +44,30 @@ pub fn shift(p: Spot, o: Dot) -> Spot
     Spot { x, y }
 }
 
+// This and the next three, and `wide`, are the library's methods, under the names that `lines` and `contains` call.
 pub fn larger(a: u32, b: u32) -> u32
     ensures { result ≡ max a b }
 {
-    if a < b { b } else { a }
+    a.max(b)
 }
 
 pub fn smaller(a: u32, b: u32) -> u32
     ensures { result ≡ min a b }
 {
-    if a < b { a } else { b }
+    a.min(b)
 }
 
 pub fn gap_of(a: u32, b: u32) -> u32
     ensures { result ≡ gap_b a b }
 {
-    if a <= b { b - a } else { a - b }
+    a.abs_diff(b)
 }
 
 // a - b, and 0 where b is the larger.
 pub fn less(a: u32, b: u32) -> u32
     ensures { result ≡ a - b }
 {
-    if a < b { 0 } else { a - b }
+    a.saturating_sub(b)
 }
 
 // q up from b, or down.
@@ -79,7 +81,7 @@ pub fn aside_of(up: bool, b: u32, q: u32) -> u32
 pub fn wide(a: u32) -> u64
     ensures { result ≡ a }
 {
-    a as u64
+    u64::from(a)
 }
 
 // 2ab, which 32 bits do not hold.
@@ -87,5 +89,5 @@ pub fn twice_of(a: u32, b: u32) -> u64
     requires { (a < 131072) × (b < 131072) }
     ensures { (result ≡ 2 * a * b) × (result < 34359738368) }
 {
-    2 * wide(a) * wide(b)
+    2 * u64::from(a) * u64::from(b)
 }

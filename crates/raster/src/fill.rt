@@ -15,11 +15,8 @@ fn fill_rows(screen: &mut [u8], w: u32, r: Rect, c: u8)
     requires { Room w r screen.old }
     ensures { screen.new ≡ pixels w (in_rect r) c screen.old }
 {
-    let b = r.b;
-    let mut y = r.t;
-    while y <= b {
+    for y in r.t..=r.b {
         row_part(screen, w, y, r.l, r.r, c);
-        y += 1;
     }
 }
 
@@ -29,13 +26,11 @@ fn fill_rect(screen: &mut [u8], w: u32, r: Rect, c: u8)
     requires w_nonzero { 0 < w }
     ensures { screen.new ≡ pixels w (in_rect r) c screen.old }
 {
-    if r.l == BIAS {
-        if r.r + 1 == w + BIAS {
-            whole_rows(screen, w, r, c);
-            return;
-        }
+    if r.l == BIAS && r.r + 1 == w + BIAS {
+        whole_rows(screen, w, r, c);
+    } else {
+        fill_rows(screen, w, r, c);
     }
-    fill_rows(screen, w, r, c);
 }
 
 // The whole screen, where it is drawable.

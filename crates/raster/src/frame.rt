@@ -30,7 +30,8 @@ pub struct Window {
     pub y1: i32,
 }
 
-// Coordinates are relative to the origin. In clip mode 1 the window is too, in mode 2 it is absolute.
+// Coordinates are relative to the origin. In clip mode 1 the window is too, in mode 2 it is absolute: a number, as the environment
+// holds it for C. No invariant says `Sane`, since the definitions and the laws of painting speak of every frame.
 #[repr(C)]
 #[derive(Clone, Copy)]
 pub struct Frame {

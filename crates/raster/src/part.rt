@@ -1,4 +1,6 @@
 // Parts of the screen whose bytes lie side by side: painted with no test for each dot.
+// Bytes and width are two parameters: each function here hands them on once, and who has many steps to paint, as `circles`, holds them in
+// a struct of its own.
 ghost use Rattle.std.specs.Prelude.{◌≡◌, ◌+◌, ◌<◌, ◌≤◌, length};
 ghost use Rattle.raster.specs.Paint.{recolour};
 ghost use Rattle.raster.specs.Biased.{bias};
@@ -8,18 +10,6 @@ ghost use Rattle.raster.specs.Parts.{between, row_part};
 use crate::biased::BIAS;
 use crate::rect::Rect;
 
-// The bytes a to e - 1. The compiler makes one memset of the loop.
-fn set_bytes(screen: &mut [u8], a: usize, e: usize, c: u8)
-    requires { e ≤ length screen.old }
-    ensures { screen.new ≡ recolour (between a e) c screen.old }
-{
-    let mut i = a;
-    while i < e {
-        screen[i] = c;
-        i += 1;
-    }
-}
-
 // Columns x0 to x1 of row y, both ends inside: none where x0 is above x1.
 pub fn row_part(screen: &mut [u8], w: u32, y: u32, x0: u32, x1: u32, c: u8)
     requires { Room w (row_part y x0 x1) screen.old }
@@ -27,12 +17,9 @@ pub fn row_part(screen: &mut [u8], w: u32, y: u32, x0: u32, x1: u32, c: u8)
 {
     if x0 <= x1 {
         let at = (y - BIAS) as usize * (w as usize);
-        set_bytes(
-            screen,
-            at + (x0 - BIAS) as usize,
-            at + (x1 + 1 - BIAS) as usize,
-            c,
-        );
+        let from = at + (x0 - BIAS) as usize;
+        let to = at + (x1 + 1 - BIAS) as usize;
+        screen[from..to].fill(c);
     }
 }
 
@@ -42,14 +29,9 @@ pub fn whole_rows(screen: &mut [u8], w: u32, r: Rect, c: u8)
     requires w_nonzero { (0 < w) × (r.l ≡ bias) × (r.r + 1 ≡ w + bias) }
     ensures { screen.new ≡ pixels w (in_rect r) c screen.old }
 {
-    let t = r.t;
-    let b = r.b;
-    if t <= b {
-        set_bytes(
-            screen,
-            ((t - BIAS) * w) as usize,
-            ((b + 1 - BIAS) * w) as usize,
-            c,
-        );
+    if r.t <= r.b {
+        let from = ((r.t - BIAS) * w) as usize;
+        let to = ((r.b + 1 - BIAS) * w) as usize;
+        screen[from..to].fill(c);
     }
 }

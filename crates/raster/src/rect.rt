@@ -1,9 +1,9 @@
 // Rectangles of biased points: the drawable points, and a dot's byte.
 ghost use Rattle.std.specs.Prelude.{◌≡◌, ◌<◌, ◌≤◌, ◌&&◌, ◌||◌, ◌==◌, nat_le, slice_set};
 ghost use Rattle.raster.specs.Frame.{Coord, Sane};
-ghost use Rattle.raster.specs.Rects.{byte_b, inside_b, pane_rect, window_rect, clip_rect, overlap_of, rect_of, Placed, Seen};
+ghost use Rattle.raster.specs.Rects.{byte_b, inside_b, pane_rect, window_rect, rect_from, clip_rect, overlap_of, rect_of, Placed, Seen};
 
-use crate::biased::{BIAS, Spot, biased, larger, shift, smaller};
+use crate::biased::{BIAS, Spot, biased, shift};
 use crate::frame::{Frame, Pane, Window};
 
 // Columns l to r of rows t to b, both ends inside: none where l is above r, or t above b.
@@ -13,6 +13,38 @@ pub struct Rect {
     pub t: u32,
     pub r: u32,
     pub b: u32,
+}
+
+impl Rect {
+    // From one corner to the other.
+    fn from_corners(p: Spot, q: Spot) -> Rect
+        ensures { result ≡ rect_from p q }
+    {
+        Rect {
+            l: p.x,
+            t: p.y,
+            r: q.x,
+            b: q.y,
+        }
+    }
+
+    // The points of both.
+    fn overlap(self, other: Rect) -> Rect
+        ensures { result ≡ overlap_of self other }
+    {
+        Rect {
+            l: self.l.max(other.l),
+            t: self.t.max(other.t),
+            r: self.r.min(other.r),
+            b: self.b.min(other.b),
+        }
+    }
+
+    fn contains(self, p: Spot) -> bool
+        ensures { result ≡ inside_b self p.x p.y }
+    {
+        (self.l..=self.r).contains(&p.x) && (self.t..=self.b).contains(&p.y)
+    }
 }
 
 fn pane_rect(p: Pane) -> Rect
@@ -50,24 +82,7 @@ fn clip_rect(f: Frame) -> Rect
     }
     let p = shift(Spot { x: w.l, y: w.t }, f.origin);
     let q = shift(Spot { x: w.r, y: w.b }, f.origin);
-    Rect {
-        l: p.x,
-        t: p.y,
-        r: q.x,
-        b: q.y,
-    }
-}
-
-// The points of both.
-fn overlap(a: Rect, b: Rect) -> Rect
-    ensures { result ≡ overlap_of a b }
-{
-    Rect {
-        l: larger(a.l, b.l),
-        t: larger(a.t, b.t),
-        r: smaller(a.r, b.r),
-        b: smaller(a.b, b.b),
-    }
+    Rect::from_corners(p, q)
 }
 
 // The drawable points.
@@ -80,30 +95,15 @@ pub fn rect_of(f: Frame) -> Rect
     if f.mode == 0 {
         return p;
     }
-    overlap(p, w)
+    p.overlap(w)
 }
 
-fn inside(r: Rect, p: Spot) -> bool
-    ensures { result ≡ inside_b r p.x p.y }
-{
-    if p.x < r.l {
-        return false;
-    }
-    if r.r < p.x {
-        return false;
-    }
-    if p.y < r.t {
-        return false;
-    }
-    p.y <= r.b
-}
-
-// x is one of lo to hi, by one comparison: from below lo it wraps to above them all.
+// x is one of lo to hi, by one comparison, where a range's `contains` makes two: from below lo it wraps to above them all.
 pub fn among(lo: u32, hi: u32, x: u32) -> bool
     requires { lo ≤ hi }
     ensures { result ≡ (nat_le lo x && nat_le x hi) }
 {
-    std::num::wrapping_sub_u32(x, lo) <= hi - lo
+    x.wrapping_sub(lo) <= hi - lo
 }
 
 // The mode lets the dot through.
@@ -111,10 +111,7 @@ fn in_clip(f: Frame, p: Spot) -> bool
     requires { Sane f }
     ensures { result ≡ (f.mode == 0 || inside_b (clip_rect f) p.x p.y) }
 {
-    if f.mode == 0 {
-        return true;
-    }
-    inside(clip_rect(f), p)
+    f.mode == 0 || clip_rect(f).contains(p)
 }
 
 // The dot is drawable: what a single dot asks in place of the rectangle. No pane is empty.
@@ -126,10 +123,7 @@ pub fn visible(f: Frame, p: Spot) -> bool
         return false;
     }
     let pane = pane_rect(f.bounds.pane);
-    if !among(pane.l, pane.r, p.x) {
-        return false;
-    }
-    among(pane.t, pane.b, p.y)
+    among(pane.l, pane.r, p.x) && among(pane.t, pane.b, p.y)
 }
 
 // The dot's byte on a screen of w columns.

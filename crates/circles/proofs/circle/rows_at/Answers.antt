@@ -1,48 +1,57 @@
 -- `rows_at`: all columns up to where the circle reaches, or the outline's to either side.
-use mathlib.Core.Path.{sym, ap, ap₂, ◌∙◌}
-use mathlib.Core.Bool.{Bool, true, false, ◌&&◌}
-use mathlib.Core.List.{List}
+use mathlib.Core.Path.{sym, ap, ap₂, ◌∙◌, subst⁻¹}
+use mathlib.Core.Bool.{Bool, true, false, not, ◌&&◌}
 use Prim.Native.Nat.{ℕ, ◌+◌, ◌-◌, min}
 use lib.Dec.{eqb}
 use Rattle.raster.specs.declared.biased.Spot.{Spot}
-use Rattle.raster.specs.declared.rect.Rect.{Rect}
 use Rattle.raster.specs.Biased.{bias, gap_b}
-use Rattle.raster.specs.Rects.{pixels, in_rect}
+use Rattle.std.proofs.Common.{rules, ne_eqb}
+use Rattle.circles.specs.declared.sheet.Sheet.{Sheet}
 use Rattle.circles.specs.Reaches.{circle_b, pair_b}
+use Rattle.circles.specs.Sheets.{Ready, showing, painted}
 use Rattle.circles.proofs.Pairs.{alike, joined}
+use Rattle.circles.proofs.Sheets.{still-ready}
 use Rattle.circles.proofs.Columns.{filled-columns, outline-columns}
 use Rattle.circles.proofs.circle.rows_at.Goals as goal
 
--- columns a to b of the two rows d from row y, painted on t
-abbrev part : ℕ → Rect → ℕ → ℕ → ℕ → ℕ → ℕ → List ℕ → List ℕ
-part w r y d c a b t = pixels w (λ i j. in_rect r i j && pair_b y d a b i j) c t
-
 -- the circle's dots there, painted on s
-abbrev dots : ℕ → Rect → Spot → ℕ → ℕ → ℕ → List ℕ → Bool → List ℕ
-dots w r p q d c s filled = pixels w (λ i j. in_rect r i j && (eqb (gap_b p.y (j + bias)) d && circle_b filled p q i j)) c s
+abbrev dots : Sheet → Spot → ℕ → ℕ → Bool → Sheet
+dots s p q d filled = painted s (λ i j. eqb (gap_b p.y (j + bias)) d && circle_b filled p q i j)
 
-pub returns-then-filled : goal.returns-then-filled
-returns-then-filled c =
-    let g = c.args in
-    let h = g.e - 1 in
+pub pair-requires-else-this-ne0-2-clause-ready : goal.pair-requires-else-this-ne0-2-clause-ready
+pair-requires-else-this-ne0-2-clause-ready g c =
+    let a = c.args in
+    subst⁻¹ Ready c.pair-else-this-ne0.ensures
+    (still-ready a.s.now (pair_b a.k.p.y a.d c.saturating_sub-else-this-ne0.result c.saturating_sub-else-this-ne0-2.result) c.requires.ready)
+
+pub returns-then-this-ne0 : goal.returns-then-this-ne0
+returns-then-this-ne0 g c =
+    let a = c.args in
+    let s = a.s.now in
+    let x = a.k.p.x in
+    let h = a.e - 1 in
     c.pair.ensures
-    ∙ ap (λ (a : ℕ). part g.w g.r g.p.y g.d g.c a (g.p.x + h) g.screen.now) c.less.ensures
-    ∙ alike g.w g.r g.c g.screen.now (pair_b g.p.y g.d (g.p.x - h) (g.p.x + h))
-    (λ i j. eqb (gap_b g.p.y (j + bias)) g.d && circle_b true g.p g.q i j)
-    (λ i j _. filled-columns g.p g.q g.d g.e c.requires.t_le_b.4 c.requires.reaching.0 i j)
-    ∙ ap (dots g.w g.r g.p g.q g.d g.c g.screen.now) (sym c.if-filled.true)
+    ∙ ap (λ (b : ℕ). painted s (pair_b a.k.p.y a.d b (x + h))) c.saturating_sub.ensures
+    ∙ ap (showing s)
+    (alike s.w s.r s.c s.screen.now (pair_b a.k.p.y a.d (x - h) (x + h))
+    (λ i j. eqb (gap_b a.k.p.y (j + bias)) a.d && circle_b true a.k.p a.k.q i j)
+    (λ i j _. filled-columns a.k.p a.k.q a.d a.e c.requires.small.1 c.requires.reaching.0 i j))
+    ∙ ap (dots s a.k.p a.k.q a.d) {x = true} (sym (ap not (ne_eqb g.row.FILLED 0 c.if-this-ne0.true)))
 
-pub returns-else-filled : goal.returns-else-filled
-returns-else-filled c =
-    let g = c.args in
-    let h = g.e - 1 in
-    let k = min h g.g in
-    c.pair-else-filled-2.ensures
-    ∙ ap₂ (λ (a : ℕ) (t : List ℕ). part g.w g.r g.p.y g.d g.c (g.p.x + a) (g.p.x + h) t) c.smaller-k.ensures
-    (c.pair-else-filled.ensures
-    ∙ ap₂ (λ (a b : ℕ). part g.w g.r g.p.y g.d g.c a b g.screen.now) c.less-else-filled.ensures
-    (c.less-else-filled-2.ensures ∙ ap (λ (a : ℕ). g.p.x - a) c.smaller-k.ensures))
-    ∙ joined g.w g.r g.c g.screen.now (pair_b g.p.y g.d (g.p.x - h) (g.p.x - k)) (pair_b g.p.y g.d (g.p.x + k) (g.p.x + h))
-    (λ i j. eqb (gap_b g.p.y (j + bias)) g.d && circle_b false g.p g.q i j)
-    (λ i j _. outline-columns g.p g.q g.d g.e c.requires.t_le_b.4 c.requires.reaching.0 i j g.g c.requires.reaching.1)
-    ∙ ap (dots g.w g.r g.p g.q g.d g.c g.screen.now) (sym c.if-filled.false)
+pub returns-else-this-ne0 : goal.returns-else-this-ne0
+returns-else-this-ne0 g c =
+    let a = c.args in
+    let s = a.s.now in
+    let x = a.k.p.x in
+    let h = a.e - 1 in
+    let k = min h a.g in
+    c.pair-else-this-ne0-2.ensures
+    ∙ ap₂ (λ (b : ℕ) (t : Sheet). painted t (pair_b a.k.p.y a.d (x + b) (x + h))) c.min-i.ensures
+    (c.pair-else-this-ne0.ensures
+    ∙ ap₂ (λ (a' b : ℕ). painted s (pair_b a.k.p.y a.d a' b)) c.saturating_sub-else-this-ne0.ensures
+    (c.saturating_sub-else-this-ne0-2.ensures ∙ ap (λ (b : ℕ). x - b) c.min-i.ensures))
+    ∙ ap (showing s)
+    (joined s.w s.r s.c s.screen.now (pair_b a.k.p.y a.d (x - h) (x - k)) (pair_b a.k.p.y a.d (x + k) (x + h))
+    (λ i j. eqb (gap_b a.k.p.y (j + bias)) a.d && circle_b false a.k.p a.k.q i j)
+    (λ i j _. outline-columns a.k.p a.k.q a.d a.e c.requires.small.1 c.requires.reaching.0 i j a.g c.requires.reaching.1))
+    ∙ ap (dots s a.k.p a.k.q a.d) {x = false} (search rules)

@@ -1,10 +1,7 @@
 -- `raster::fill::fill_rows` meets its contract: after each turn the rows above y are painted.
-use Rattle.std.proofs.Common.{◌≡◌, ◌+◌, ◌-◌, ◌≤◌, true, length}
+use Rattle.std.proofs.Common.{◌≡◌, true}
 use Rattle.raster.proofs.Rows.{above}
 use Rattle.raster.proofs.fill.fill_rows.Given as goal
 
 abbrev pub invariant-loop-y : goal.invariant-loop-y
-invariant-loop-y l = (l.screen ≡ above l.w l.r (λ i j. true) l.y l.c l.initial.screen) × (length l.screen ≡ length l.initial.screen) × (l.r.t ≤ l.y)
-
-abbrev pub decreases-loop-y : goal.decreases-loop-y
-decreases-loop-y l = l.b + 1 - l.y
+invariant-loop-y l = l.screen ≡ above l.w l.r (λ i j. true) l.y l.c l.initial.screen
