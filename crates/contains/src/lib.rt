@@ -1,6 +1,7 @@
 // Whether what a brush paints contains a dot, in constant time for every shape.
 #![tactic(auto)]
 
+mod pixel; // a column and a row of a screen
 mod line; // a line, also a dashed one
 mod circle; // a circle, filled or its outline
 
@@ -12,36 +13,32 @@ ghost use Rattle.brush.specs.Brush.{shape_of, Near};
 
 use crate::circle::{on_disc, on_outline};
 use crate::line::{on_dashed, on_line};
+use crate::pixel::Pixel;
 use brush::{Brush, one, other};
-use raster::biased::{BIAS, Spot};
+use raster::biased::Spot;
 use raster::dots::Dot;
 use raster::frame::Frame;
 use raster::rect::visible;
 
-fn on_dot(p: Spot, column: u32, row: u32) -> bool
-    requires { (column < 65536) × (row < 65536) }
-    ensures { result ≡ dot (dot_of p) (pos column) (pos row) }
+fn on_dot(p: Spot, d: Pixel) -> bool
+    ensures { result ≡ dot (dot_of p) (pos d.column) (pos d.row) }
 {
-    if p.x == column + BIAS {
-        p.y == row + BIAS
-    } else {
-        false
-    }
+    p == d.spot()
 }
 
-// The shape that the brush holds, moved to the origin, has a dot in this column and row.
-fn on_shape(brush: &Brush, o: Dot, column: u32, row: u32) -> bool
-    requires word { Word o.x × Word o.y × (column < 65536) × (row < 65536) }
+// The shape that the brush holds, moved to the origin, has a dot in this pixel.
+fn on_shape(brush: &Brush, o: Dot, d: Pixel) -> bool
+    requires word { Word o.x × Word o.y }
     requires near { Near brush.now }
-    ensures { result ≡ moved_by o (shape_of brush.now) (pos column) (pos row) }
+    ensures { result ≡ moved_by o (shape_of brush.now) (pos d.column) (pos d.row) }
 {
     match brush[0] {
-        1 => on_dot(one(brush, o), column, row),
-        2 => on_line(one(brush, o), other(brush, o), column, row),
+        1 => on_dot(one(brush, o), d),
+        2 => on_line(one(brush, o), other(brush, o), d),
         3 => true,
-        4 => on_disc(one(brush, o), brush[4], column, row),
-        5 => on_outline(one(brush, o), brush[4], column, row),
-        6 => on_dashed(one(brush, o), other(brush, o), brush[6], column, row),
+        4 => on_disc(one(brush, o), brush[4], d),
+        5 => on_outline(one(brush, o), brush[4], d),
+        6 => on_dashed(one(brush, o), other(brush, o), brush[6], d),
         _ => false,
     }
 }
@@ -52,12 +49,9 @@ pub fn contains(f: Frame, brush: &Brush, column: u32, row: u32) -> bool
     requires near { Near brush.now }
     ensures { result ≡ (drawable f (pos column) (pos row) && moved_by f.origin (shape_of brush.now) (pos column) (pos row)) }
 {
-    let p = Spot {
-        x: column + BIAS,
-        y: row + BIAS,
-    };
-    if !visible(f, p) {
+    let d = Pixel { column, row };
+    if !visible(f, d.spot()) {
         return false;
     }
-    on_shape(brush, f.origin, column, row)
+    on_shape(brush, f.origin, d)
 }

@@ -28,7 +28,7 @@ returns-in-1 c =
     let b = g.brush.now in
     let w = c.requires.word in
     c.on_dot.ensures
-    ∙ as_held g.o b g.column g.row _ _
+    ∙ as_held g.o b g.d.column g.d.row _ _
     (ap (λ (q : Spot). dot (dot_of q)) c.one.ensures ∙ dot-placed _ (w.0, w.1) (one b) (c.requires.near.dot c.in-1.is))
     (holds-dot b c.in-1.is)
 
@@ -39,12 +39,12 @@ returns-in-2 c =
     let w = c.requires.word in
     let h = c.requires.near.line c.in-2.is in
     c.on_line.ensures
-    ∙ as_held g.o b g.column g.row _ _
+    ∙ as_held g.o b g.d.column g.d.row _ _
     (ap₂ (λ (x y : Spot). line (line_of x y)) c.one-in-2.ensures c.other.ensures ∙ line-placed _ (w.0, w.1) (one b) h.0 (other b) h.1)
     (holds-line b c.in-2.is)
 
 pub returns-in-3 : goal.returns-in-3
-returns-in-3 c = let g = c.args in as_held g.o g.brush.now g.column g.row _ _ refl (holds-all g.brush.now c.in-3.is)
+returns-in-3 c = let g = c.args in as_held g.o g.brush.now g.d.column g.d.row _ _ refl (holds-all g.brush.now c.in-3.is)
 
 pub returns-in-4 : goal.returns-in-4
 returns-in-4 c =
@@ -52,7 +52,7 @@ returns-in-4 c =
     let b = g.brush.now in
     let w = c.requires.word in
     c.on_disc.ensures
-    ∙ as_held g.o b g.column g.row _ _
+    ∙ as_held g.o b g.d.column g.d.row _ _
     (ap (λ (q : Spot). disc (circle_of q (radius b))) c.one-in-4.ensures
     ∙ circle-placed _ (w.0, w.1) (one b) (c.requires.near.disc c.in-4.is).0 true (radius b))
     (holds-disc b c.in-4.is)
@@ -63,7 +63,7 @@ returns-in-5 c =
     let b = g.brush.now in
     let w = c.requires.word in
     c.on_outline.ensures
-    ∙ as_held g.o b g.column g.row _ _
+    ∙ as_held g.o b g.d.column g.d.row _ _
     (ap (λ (q : Spot). outline (circle_of q (radius b))) c.one-in-5.ensures
     ∙ circle-placed _ (w.0, w.1) (one b) (c.requires.near.outline c.in-5.is).0 false (radius b))
     (holds-outline b c.in-5.is)
@@ -75,10 +75,10 @@ returns-in-6 c =
     let w = c.requires.word in
     let h = c.requires.near.dashed c.in-6.is in
     c.on_dashed.ensures
-    ∙ as_held g.o b g.column g.row _ _
+    ∙ as_held g.o b g.d.column g.d.row _ _
     (ap₂ (λ (x y : Spot). dashed (pattern b) (line_of x y)) c.one-in-6.ensures c.other-in-6.ensures
     ∙ dashed-placed _ (w.0, w.1) (one b) h.0 (other b) h.1 (pattern b))
     (holds-dashed b c.in-6.is)
 
 pub returns-in_default : goal.returns-in_default
-returns-in_default c = let g = c.args in as_held g.o g.brush.now g.column g.row _ _ refl (holds-none g.brush.now assumption)
+returns-in_default c = let g = c.args in as_held g.o g.brush.now g.d.column g.d.row _ _ refl (holds-none g.brush.now assumption)
