@@ -65,7 +65,7 @@ fn pace_of(w: u32, l: Course) -> Pace
     } else {
         Pace {
             on,
-            aside: std::num::wrapping_sub_usize(on, beside),
+            aside: on.wrapping_sub(beside),
         }
     }
 }
@@ -91,7 +91,7 @@ impl Place {
             }
         } else {
             Place {
-                at: std::num::wrapping_add_usize(self.at, p.aside),
+                at: self.at.wrapping_add(p.aside),
                 e: self.e - room,
             }
         }
