@@ -6,7 +6,7 @@ use crate::course::{FairCourse, across_of, along_of};
 use raster::biased::{Spot, larger, less, smaller, twice_of, wide};
 use raster::rect::Rect;
 
-// The numbers from `from` on, before `past`: none where past is not above from.
+// The numbers from `from` on, before `past`: none where past is not above from. Unlike the library's range it is Copy.
 #[derive(Clone, Copy)]
 pub struct Span {
     pub from: u32,
@@ -41,8 +41,8 @@ fn span_of(up: bool, a: u32, lo: u32, hi: u32) -> Span
 }
 
 impl FairCourse {
-    // The first dot that is q aside, or more; n + 1 where none is. One division, rounded up, and none where that is dot 0 or
-    // none.
+    // The first dot that is q aside, or more; where none is n + 1, which is past the last, as a span's end. One division,
+    // rounded up, and none where that is dot 0 or none.
     fn first(self, q: u32) -> u32
         ensures { First self.course q result }
     {

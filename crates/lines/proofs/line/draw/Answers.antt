@@ -1,5 +1,6 @@
 -- `lines::line::draw` meets its contract: what is drawn with the pattern.
 use Rattle.std.proofs.Common.{◌∙◌}
+use Rattle.lines.proofs.Walks.{stretched}
 use Rattle.lines.proofs.Drawn.{framed, may-cut, none-drawn, all_seen, some-drawn}
 use Rattle.lines.proofs.line.draw.Goals as goal
 
@@ -24,7 +25,9 @@ pub returns-then-s : goal.returns-then-s
 returns-then-s g c =
     let a = c.args in
     let v = framed a.f a.screen.now a.p a.q c.requires.fitting c.requires.near_b c.between-o.ensures c.rect_of.ensures in
-    c.walk.ensures ∙ some-drawn v c.dots_within-s.ensures (g.P.Pattern.bits a.pattern) a.c
+    let o = g.P.Pattern.bits a.pattern in
+    let d = c.dots_within-s.result in
+    ◌∙◌ {b = stretched a.f.bounds.width o c.between-o.result.course d.from d.past a.c a.screen.now} c.walk.ensures (some-drawn v c.dots_within-s.ensures o a.c)
 
 -- ---- where none is
 pub returns-else-s : goal.returns-else-s
