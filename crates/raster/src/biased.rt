@@ -10,7 +10,7 @@ use crate::dots::Dot;
 pub const BIAS: u32 = 65536;
 
 // A dot, biased.
-#[derive(Clone, Copy)]
+#[derive(Clone, Copy, PartialEq, Eq)]
 pub struct Spot {
     pub x: u32,
     pub y: u32,
