@@ -1,4 +1,3 @@
 -- The laws that proofs cite, here and in the crates above:
-pub mod Near
 pub mod Offsets
 pub mod Members

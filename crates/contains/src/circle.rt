@@ -4,16 +4,17 @@ ghost use Rattle.raster.specs.Biased.{NearB};
 ghost use Rattle.circles.specs.Circle.{disc, outline};
 ghost use Rattle.circles.specs.Reaches.{circle_of, circle_at, reach};
 
-use raster::biased::{BIAS, Spot, gap_of};
+use crate::pixel::Pixel;
+use raster::biased::{Spot, gap_of};
 
 // A point a columns and b rows from the centre is within the radius.
 fn reaches(q: u32, a: u32, b: u32) -> bool
     requires { (q < 32768) × (a ≤ 131072) × (b ≤ 131072) }
     ensures { result ≡ reach q a b }
 {
-    let x = a as u64;
-    let y = b as u64;
-    let r = q as u64;
+    let x = u64::from(a);
+    let y = u64::from(b);
+    let r = u64::from(q);
     x * x + y * y <= r * r
 }
 
@@ -22,27 +23,21 @@ fn at_edge(q: u32, a: u32, b: u32) -> bool
     requires { (q < 32768) × (a < 131072) × (b < 131072) }
     ensures { result ≡ circle_at false q a b }
 {
-    if !reaches(q, a, b) {
-        return false;
-    }
-    if !reaches(q, a + 1, b) {
-        return true;
-    }
-    !reaches(q, a, b + 1)
+    reaches(q, a, b) && (!reaches(q, a + 1, b) || !reaches(q, a, b + 1))
 }
 
-pub fn on_disc(p: Spot, q: u32, column: u32, row: u32) -> bool
-    requires near_b { NearB p × (q < 32768) }
-    requires column_bound { (column < 65536) × (row < 65536) }
-    ensures { result ≡ disc (circle_of p q) (pos column) (pos row) }
+pub fn on_disc(p: Spot, q: u32, d: Pixel) -> bool
+    requires { NearB p × (q < 32768) }
+    ensures { result ≡ disc (circle_of p q) (pos d.column) (pos d.row) }
 {
-    reaches(q, gap_of(p.x, column + BIAS), gap_of(p.y, row + BIAS))
+    let s = d.spot();
+    reaches(q, gap_of(p.x, s.x), gap_of(p.y, s.y))
 }
 
-pub fn on_outline(p: Spot, q: u32, column: u32, row: u32) -> bool
-    requires near_b { NearB p × (q < 32768) }
-    requires column_bound { (column < 65536) × (row < 65536) }
-    ensures { result ≡ outline (circle_of p q) (pos column) (pos row) }
+pub fn on_outline(p: Spot, q: u32, d: Pixel) -> bool
+    requires { NearB p × (q < 32768) }
+    ensures { result ≡ outline (circle_of p q) (pos d.column) (pos d.row) }
 {
-    at_edge(q, gap_of(p.x, column + BIAS), gap_of(p.y, row + BIAS))
+    let s = d.spot();
+    at_edge(q, gap_of(p.x, s.x), gap_of(p.y, s.y))
 }

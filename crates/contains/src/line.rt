@@ -3,12 +3,13 @@ ghost use Rattle.std.specs.Prelude.{◌≡◌, cond, ◌-◌, ◌<◌, ◌≤◌
 ghost use Rattle.raster.specs.Biased.{NearB, aside};
 ghost use Rattle.lines.specs.Line.{line};
 ghost use Rattle.lines.specs.Dashes.{dashed};
-ghost use Rattle.lines.specs.Courses.{line_of, offset_of, dashed_b, Fair};
+ghost use Rattle.lines.specs.Courses.{line_of, offset_of, dashed_b};
 
-use lines::course::{Course, across_of, along_of, course_of, half_of};
-use lines::dashes::{lit, number_of};
+use crate::pixel::Pixel;
+use lines::course::{FairCourse, across_of, along_of};
+use lines::dashes::lit;
 use lines::line::SOLID;
-use raster::biased::{BIAS, Spot, aside_of, less, twice_of, wide};
+use raster::biased::{Spot, aside_of, less, twice_of, wide};
 
 // How far b is from a, up or down; 0 where it is on the other side.
 fn steps_to(up: bool, a: u32, b: u32) -> u32
@@ -18,42 +19,35 @@ fn steps_to(up: bool, a: u32, b: u32) -> u32
 }
 
 // Dot k is q aside: no division.
-fn at_offset(l: Course, k: u32, q: u32) -> bool
-    requires { Fair l × (k ≤ l.n) × (q < 131072) }
-    ensures { result ≡ eqb q (offset_of l k) }
+fn at_offset(fair: FairCourse, k: u32, q: u32) -> bool
+    requires { (k ≤ fair.course.n) × (q < 131072) }
+    ensures { result ≡ eqb q (offset_of fair.course k) }
 {
+    let l = fair.course;
     if k == 0 {
         return q == 0;
     }
-    let t = twice_of(k, l.m) + wide(half_of(l));
+    let t = twice_of(k, l.m) + wide(l.half());
     let low = twice_of(l.n, q);
-    if t < low {
-        return false;
-    }
-    t - low < 2 * wide(l.n)
+    t >= low && t - low < 2 * wide(l.n)
 }
 
 // Dot k's coordinate on the other axis is b.
-fn at_step(l: Course, k: u32, b: u32) -> bool
-    requires { Fair l × (k ≤ l.n) × (b < 131072) }
-    ensures { result ≡ eqb b (aside l.up l.across (offset_of l k)) }
+fn at_step(fair: FairCourse, k: u32, b: u32) -> bool
+    requires { (k ≤ fair.course.n) × (b < 131072) }
+    ensures { result ≡ eqb b (aside fair.course.up fair.course.across (offset_of fair.course k)) }
 {
+    let l = fair.course;
     let q = steps_to(l.up, l.across, b);
-    if b != aside_of(l.up, l.across, q) {
-        return false;
-    }
-    at_offset(l, k, q)
+    b == aside_of(l.up, l.across, q) && at_offset(fair, k, q)
 }
 
-// The dot in this column and row is one of the course that the pattern paints.
-fn on_course(l: Course, pattern: u32, column: u32, row: u32) -> bool
-    requires { Fair l × (column < 65536) × (row < 65536) }
-    ensures { result ≡ dashed_b pattern l column row }
+// The pixel is a dot of the course that the pattern paints.
+fn on_course(fair: FairCourse, pattern: u32, d: Pixel) -> bool
+    ensures { result ≡ dashed_b pattern fair.course d.column d.row }
 {
-    let p = Spot {
-        x: column + BIAS,
-        y: row + BIAS,
-    };
+    let l = fair.course;
+    let p = d.spot();
     let a = along_of(l.flat, p);
     if a < l.along {
         return false;
@@ -62,24 +56,19 @@ fn on_course(l: Course, pattern: u32, column: u32, row: u32) -> bool
     if l.n < k {
         return false;
     }
-    if !at_step(l, k, across_of(l.flat, p)) {
-        return false;
-    }
-    lit(pattern, number_of(l, k))
+    at_step(fair, k, across_of(l.flat, p)) && lit(pattern, l.number(k))
 }
 
-pub fn on_dashed(p: Spot, q: Spot, pattern: u32, column: u32, row: u32) -> bool
-    requires near_b { NearB p × NearB q }
-    requires column_bound { (column < 65536) × (row < 65536) }
-    ensures { result ≡ dashed pattern (line_of p q) (pos column) (pos row) }
+pub fn on_dashed(p: Spot, q: Spot, pattern: u32, d: Pixel) -> bool
+    requires { NearB p × NearB q }
+    ensures { result ≡ dashed pattern (line_of p q) (pos d.column) (pos d.row) }
 {
-    on_course(course_of(p, q), pattern, column, row)
+    on_course(FairCourse::between(p, q), pattern, d)
 }
 
-pub fn on_line(p: Spot, q: Spot, column: u32, row: u32) -> bool
-    requires near_b { NearB p × NearB q }
-    requires column_bound { (column < 65536) × (row < 65536) }
-    ensures { result ≡ line (line_of p q) (pos column) (pos row) }
+pub fn on_line(p: Spot, q: Spot, d: Pixel) -> bool
+    requires { NearB p × NearB q }
+    ensures { result ≡ line (line_of p q) (pos d.column) (pos d.row) }
 {
-    on_dashed(p, q, SOLID, column, row)
+    on_dashed(p, q, SOLID, d)
 }

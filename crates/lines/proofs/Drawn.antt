@@ -1,5 +1,5 @@
 -- What is drawn of a line, whatever the pattern: its course's dots within the drawable rectangle are the line's drawable dots.
-use Rattle.std.proofs.Common.{◌≡◌, ℕ, suc, ◌+◌, ◌-◌, ◌<◌, ◌≤◌, ◌&&◌, List, sym, ap, ◌∙◌, subst, ap₂, arith}
+use Rattle.std.proofs.Common.{◌≡◌, ℕ, ◌+◌, ◌<◌, ◌≤◌, ◌&&◌, List, sym, ◌∙◌, ap₂, arith}
 use mathlib.Core.Path.{subst⁻¹}
 use Rattle.raster.specs.declared.biased.Spot.{Spot}
 use Rattle.raster.specs.declared.frame.Frame.{Frame}
@@ -14,10 +14,10 @@ use Rattle.raster.proofs.Pixels.{seen}
 use Rattle.raster.proofs.Drawings.{painted}
 use Rattle.lines.specs.declared.course.Course.{Course}
 use Rattle.lines.specs.Dashes.{dashed}
-use Rattle.lines.specs.Courses.{line_of, course_of, line_spot, dashed_b, Fair}
+use Rattle.lines.specs.Courses.{line_of, course_of, line_spot, dashed_b}
 use Rattle.lines.specs.Spans.{DotsWithin}
 use Rattle.lines.specs.Walks.{AllSeen}
-use Rattle.lines.proofs.Courses.{fair, dashed-is}
+use Rattle.lines.proofs.Courses.{dashed-is}
 use Rattle.lines.proofs.Spans.{line-within}
 use Rattle.lines.proofs.Walks.{stretched, none_yet}
 
@@ -35,14 +35,11 @@ module _ {f : Frame} {s : List ℕ} {p q : Spot} {l : Course} {r : Rect} (v : Fr
   course : l ≡ course_of (spot_of (dot_of p)) (spot_of (dot_of q))
   course = v.is-course ∙ sym (ap₂ course_of (spot_back p) (spot_back q))
 
-  pub is-fair : Fair l
-  is-fair = subst⁻¹ Fair course (fair (dot_of p) (dot_of q) v.near.0 v.near.1)
-
   has_room : Room f.bounds.width r s
   has_room = subst⁻¹ (λ (r : Rect). Room f.bounds.width r s) v.is-rect (room f s v.fits)
 
-  pub may-cut : Fair l × (r.r < 131072) × (r.b < 131072)
-  may-cut = (is-fair, low f.bounds.width r.r has_room.narrow has_room.to_right, lower r.b has_room.to_bottom)
+  pub may-cut : (r.r < 131072) × (r.b < 131072)
+  may-cut = (low f.bounds.width r.r has_room.narrow has_room.to_right, lower r.b has_room.to_bottom)
     where
       low : (w a : ℕ) → w ≤ 2048 → a < w + bias → a < 131072
       low w a h g = omega arith
@@ -63,19 +60,9 @@ module _ {f : Frame} {s : List ℕ} {p q : Spot} {l : Course} {r : Rect} (v : Fr
     pub none-drawn : b ≤ a → (o c : ℕ) → s ≡ paint f (dashed o (line_of p q)) c s
     none-drawn h o c = none_yet f.bounds.width o l a c s b h ∙ all-drawn o c
 
-    -- some, the last of them before b
-    module _ (h : a < b) where
-      pub some-dot : 1 ≤ b
-      some-dot = omega arith
+    -- some
+    pub all_seen : AllSeen f.bounds.width l a b s
+    all_seen k g i = seen f.bounds.width r (line_spot l k) s has_room (cut.inside k g i)
 
-      ends : (n : ℕ) → b ≤ n + 1 → (a ≤ b - 1) × (b - 1 ≤ n) × (a ≤ n) × (suc (b - 1) ≡ b)
-      ends n g = omega arith
-
-      pub to_last : (a ≤ b - 1) × (b - 1 ≤ l.n) × (a ≤ l.n) × (suc (b - 1) ≡ b)
-      to_last = ends l.n cut.limit
-
-      pub all_seen : AllSeen f.bounds.width l a (suc (b - 1)) s
-      all_seen k g i = seen f.bounds.width r (line_spot l k) s has_room (cut.inside k g (subst (λ (n : ℕ). k < n) to_last.3 i))
-
-      pub some-drawn : (o c : ℕ) → stretched f.bounds.width o l a (suc (b - 1)) c s ≡ paint f (dashed o (line_of p q)) c s
-      some-drawn o c = ap (λ (b : ℕ). stretched f.bounds.width o l a b c s) to_last.3 ∙ all-drawn o c
+    pub some-drawn : (o c : ℕ) → stretched f.bounds.width o l a b c s ≡ paint f (dashed o (line_of p q)) c s
+    some-drawn o c = all-drawn o c

@@ -69,9 +69,6 @@ module _ {w o : ℕ} {l : Course} {first last c : ℕ} {s₀ s : List ℕ} {k at
 
   -- before the last there is a next one
   module _ (fair : Fair l) (far : last ≤ l.n) (h : k < last) where
-    pub counts : k + 1 < 4294967296
-    counts = omega (arith, fair.far)
-
     module _ (p : Pace) (paced : Paced w l p) where
       pub may-go : (l.m ≤ l.n) × (l.n < 131072) × (e < 2 * l.n) × (at < 4294967296) × (p.on ≤ 2048)
       may-go =

@@ -1,6 +1,7 @@
 // A line's course: from its end with the smaller coordinate on the long axis, along that axis and aside.
-ghost use Rattle.std.specs.Prelude.{◌≡◌, ◌≤◌, if◌then◌else◌};
-ghost use Rattle.lines.specs.Courses.{along_b, across_b, course_from, course_of, half, spot_at, Fair};
+ghost use Rattle.std.specs.Prelude.{◌≡◌, ◌≤◌};
+ghost use Rattle.raster.specs.Biased.{NearB};
+ghost use Rattle.lines.specs.Courses.{along_b, across_b, course_of, half, number_b, spot_at, Fair};
 
 use raster::biased::{Spot, aside_of, gap_of, larger, less, smaller};
 
@@ -18,6 +19,23 @@ pub struct Course {
     pub m: u32,
 }
 
+impl Course {
+    // What is left at the start, in parts of 2n: the half that rounds, and one less where the other axis falls.
+    pub fn half(self) -> u32
+        ensures { result ≡ half self.up self.n }
+    {
+        if self.up { self.n } else { less(self.n, 1) }
+    }
+
+    // Dot k's number, counted from the first point given.
+    pub fn number(self, k: u32) -> u32
+        requires { k ≤ self.n }
+        ensures { result ≡ number_b self k }
+    {
+        if self.ahead { k } else { self.n - k }
+    }
+}
+
 pub fn along_of(flat: bool, p: Spot) -> u32
     ensures { result ≡ along_b flat p }
 {
@@ -30,30 +48,6 @@ pub fn across_of(flat: bool, p: Spot) -> u32
     if flat { p.y } else { p.x }
 }
 
-fn choose(t: bool, p: Spot, q: Spot) -> Spot
-    ensures { result ≡ (if t then p else q) }
-{
-    if t { p } else { q }
-}
-
-// From p, whose coordinate on the long axis is not the larger, to q.
-fn course_from(flat: bool, ahead: bool, n: u32, m: u32, p: Spot, q: Spot) -> Course
-    ensures { result ≡ course_from flat ahead n m p q }
-{
-    let along = along_of(flat, p);
-    let across = across_of(flat, p);
-    let end = across_of(flat, q);
-    Course {
-        flat,
-        ahead,
-        along,
-        across,
-        up: across <= end,
-        n,
-        m,
-    }
-}
-
 // The course of the line between p and q: x is the long axis when the differences are equal, and the start is the end with
 // the smaller coordinate on it.
 pub fn course_of(p: Spot, q: Spot) -> Course
@@ -63,33 +57,49 @@ pub fn course_of(p: Spot, q: Spot) -> Course
     let dy = gap_of(p.y, q.y);
     let flat = dy <= dx;
     let ahead = along_of(flat, p) <= along_of(flat, q);
-    course_from(
+    let (start, end) = if ahead { (p, q) } else { (q, p) };
+    let across = across_of(flat, start);
+    Course {
         flat,
         ahead,
-        larger(dx, dy),
-        smaller(dx, dy),
-        choose(ahead, p, q),
-        choose(ahead, q, p),
-    )
+        along: along_of(flat, start),
+        across,
+        up: across <= across_of(flat, end),
+        n: larger(dx, dy),
+        m: smaller(dx, dy),
+    }
 }
 
-// What is left at the start, in parts of 2n: the half that rounds, and one less where the other axis falls.
-pub fn half_of(l: Course) -> u32
-    ensures { result ≡ half l.up l.n }
-{
-    if l.up { l.n } else { less(l.n, 1) }
+// A course none of whose dots leaves the biased numbers.
+#[derive(Clone, Copy)]
+pub struct FairCourse {
+    pub course: Course,
+    pub ghost fair: { Fair course },
 }
 
-// The dot k along the long axis and q aside.
-pub fn spot_at(l: Course, k: u32, q: u32) -> Spot
-    requires { Fair l × (k ≤ l.n) × (q ≤ l.m) }
-    ensures { result ≡ spot_at l k q }
-{
-    let a = l.along + k;
-    let b = aside_of(l.up, l.across, q);
-    if l.flat {
-        Spot { x: a, y: b }
-    } else {
-        Spot { x: b, y: a }
+impl FairCourse {
+    // That of the line between two points that are coordinates.
+    pub fn between(p: Spot, q: Spot) -> FairCourse
+        requires { NearB p × NearB q }
+        ensures { result.course ≡ course_of p q }
+    {
+        FairCourse {
+            course: course_of(p, q),
+        }
+    }
+
+    // The dot k along the long axis and q aside.
+    pub fn spot(self, k: u32, q: u32) -> Spot
+        requires { (k ≤ self.course.n) × (q ≤ self.course.m) }
+        ensures { result ≡ spot_at self.course k q }
+    {
+        let l = self.course;
+        let a = l.along + k;
+        let b = aside_of(l.up, l.across, q);
+        if l.flat {
+            Spot { x: a, y: b }
+        } else {
+            Spot { x: b, y: a }
+        }
     }
 }

@@ -7,10 +7,10 @@ ghost use Rattle.lines.specs.Line.{line};
 ghost use Rattle.lines.specs.Dashes.{dashed};
 ghost use Rattle.lines.specs.Courses.{line_of};
 
-use crate::course::course_of;
-use crate::dashes::dash;
+use crate::course::FairCourse;
+use crate::dashes::{Dashed, Pattern, Solid};
 use crate::span::dots_within;
-use crate::walk::{slope_at, walk};
+use crate::walk::walk;
 use raster::biased::Spot;
 use raster::dots::Dot;
 use raster::frame::Frame;
@@ -26,18 +26,26 @@ pub struct Line {
 // A pattern of all ones, which paints every dot.
 pub const SOLID: u32 = 0xFFFFFFFF;
 
+// The drawable dots of the line from p to q that the pattern paints.
+fn draw<P: Pattern>(screen: &mut [u8], f: Frame, p: Spot, q: Spot, pattern: P, c: u8)
+    requires fitting { Fitting f screen.old }
+    requires near_b { NearB p × NearB q }
+    ensures { screen.new ≡ paint f (dashed (P.bits pattern) (line_of p q)) c screen.old }
+{
+    let o = FairCourse::between(p, q);
+    let s = dots_within(rect_of(f), o);
+    if s.from < s.past {
+        walk(screen, f.bounds.width, o, s, pattern, c);
+    }
+}
+
 // The drawable dots of the line from p to q.
 pub fn draw_line(screen: &mut [u8], f: Frame, p: Spot, q: Spot, c: u8)
     requires fitting { Fitting f screen.old }
     requires near_b { NearB p × NearB q }
     ensures { screen.new ≡ paint f (line (line_of p q)) c screen.old }
 {
-    let o = course_of(p, q);
-    let s = dots_within(rect_of(f), o);
-    if s.from < s.past {
-        let slope = slope_at(o, s.from);
-        walk(screen, f.bounds.width, o, s.from, s.past - 1, slope, c);
-    }
+    draw(screen, f, p, q, Solid, c);
 }
 
 // Those of them that the pattern paints.
@@ -46,19 +54,5 @@ pub fn draw_dashed(screen: &mut [u8], f: Frame, p: Spot, q: Spot, pattern: u32, 
     requires near_b { NearB p × NearB q }
     ensures { screen.new ≡ paint f (dashed pattern (line_of p q)) c screen.old }
 {
-    let o = course_of(p, q);
-    let s = dots_within(rect_of(f), o);
-    if s.from < s.past {
-        let slope = slope_at(o, s.from);
-        dash(
-            screen,
-            f.bounds.width,
-            o,
-            pattern,
-            s.from,
-            s.past - 1,
-            slope,
-            c,
-        );
-    }
+    draw(screen, f, p, q, Dashed { pattern }, c);
 }

@@ -1,12 +1,12 @@
 // A walk along a line's course: from one dot's byte to the next one's, with no product, no division and no question whether
 // a dot is drawable.
-ghost use Rattle.std.specs.Prelude.{◌≡◌, suc, ◌*◌, ◌<◌, ◌≤◌};
+ghost use Rattle.std.specs.Prelude.{◌≡◌, ◌+◌, ◌*◌, ◌<◌, ◌≤◌, length, if◌then◌else◌, slice_set};
 ghost use Rattle.raster.specs.Rects.{pixels};
-ghost use Rattle.lines.specs.Dashes.{solid};
-ghost use Rattle.lines.specs.Courses.{Fair};
 ghost use Rattle.lines.specs.Walks.{stretch_b, stride, next_place, AllSeen, Paced, Reached};
 
-use crate::course::{Course, half_of, spot_at};
+use crate::course::{Course, FairCourse};
+use crate::dashes::Pattern;
+use crate::span::Span;
 use raster::biased::{twice_of, wide};
 use raster::rect::byte_of;
 
@@ -17,20 +17,23 @@ pub struct Slope {
     pub e: u32,
 }
 
-// At dot k: one division, and none at the first dot.
-pub fn slope_at(l: Course, k: u32) -> Slope
-    requires { Fair l × (k ≤ l.n) }
-    ensures { Reached l k result.q result.e }
-{
-    let h = half_of(l);
-    if k == 0 {
-        return Slope { q: 0, e: h };
-    }
-    let t = twice_of(k, l.m) + wide(h);
-    let d = 2 * wide(l.n);
-    Slope {
-        q: (t / d) as u32,
-        e: (t % d) as u32,
+impl FairCourse {
+    // At dot k: one division, and none at the first dot.
+    fn slope(self, k: u32) -> Slope
+        requires { k ≤ self.course.n }
+        ensures { Reached self.course k result.q result.e }
+    {
+        let l = self.course;
+        let h = l.half();
+        if k == 0 {
+            return Slope { q: 0, e: h };
+        }
+        let t = twice_of(k, l.m) + wide(h);
+        let d = 2 * wide(l.n);
+        Slope {
+            q: (t / d) as u32,
+            e: (t % d) as u32,
+        }
     }
 }
 
@@ -48,7 +51,7 @@ pub struct Pace {
     pub aside: usize,
 }
 
-pub fn pace_of(w: u32, l: Course) -> Pace
+fn pace_of(w: u32, l: Course) -> Pace
     requires { w ≤ 2048 }
     ensures { Paced w l result }
 {
@@ -62,7 +65,7 @@ pub fn pace_of(w: u32, l: Course) -> Pace
     } else {
         Pace {
             on,
-            aside: std::num::wrapping_sub_usize(on, beside),
+            aside: on.wrapping_sub(beside),
         }
     }
 }
@@ -74,41 +77,51 @@ pub struct Place {
     pub e: u32,
 }
 
-// One step along the long axis: aside too where 2m more make 2n or more, which is where e is not below `room`.
-pub fn next(l: Course, p: Pace, at: usize, e: u32) -> Place
-    requires { (l.m ≤ l.n) × (l.n < 131072) × (e < 2 * l.n) × (at < 4294967296) × (p.on ≤ 2048) }
-    ensures { result ≡ next_place l p at e }
-{
-    let room = 2 * (l.n - l.m);
-    if e < room {
-        Place {
-            at: at + p.on,
-            e: e + 2 * l.m,
-        }
-    } else {
-        Place {
-            at: std::num::wrapping_add_usize(at, p.aside),
-            e: e - room,
+impl Place {
+    // One step along the long axis: aside too where 2m more make 2n or more, which is where e is not below `room`.
+    fn next(self, l: Course, p: Pace) -> Place
+        requires { (l.m ≤ l.n) × (l.n < 131072) × (self.e < 2 * l.n) × (self.at < 4294967296) × (p.on ≤ 2048) }
+        ensures { result ≡ next_place l p self.at self.e }
+    {
+        let room = 2 * (l.n - l.m);
+        if self.e < room {
+            Place {
+                at: self.at + p.on,
+                e: self.e + 2 * l.m,
+            }
+        } else {
+            Place {
+                at: self.at.wrapping_add(p.aside),
+                e: self.e - room,
+            }
         }
     }
 }
 
-// The dots from dot first, whose slope is s, to dot last, all on the screen: all but the last in a loop.
-pub fn walk(screen: &mut [u8], w: u32, l: Course, first: u32, last: u32, s: Slope, c: u8)
-    requires all_seen { AllSeen w l first (suc last) screen.old }
-    requires fair { Fair l × Reached l first s.q s.e × (first ≤ last) × (last ≤ l.n) }
-    ensures { screen.new ≡ pixels w (stretch_b solid l first (suc last)) c screen.old }
+// A byte gets the colour, or stays.
+fn put(screen: &mut [u8], at: usize, painted: bool, c: u8)
+    requires { at < length screen.old }
+    ensures { screen.new ≡ (if painted then slice_set screen.old at c else screen.old) }
 {
-    let p = pace_of(w, l);
-    let mut k = first;
-    let mut at = byte_of(w, spot_at(l, first, s.q));
-    let mut e = s.e;
-    while k < last {
+    if painted {
         screen[at] = c;
-        let t = next(l, p, at, e);
-        at = t.at;
-        e = t.e;
-        k += 1;
     }
-    screen[at] = c;
+}
+
+// The dots of the span, all on the screen, of which the pattern may leave some out: all but the last in a loop.
+pub fn walk<P: Pattern>(screen: &mut [u8], w: u32, l: FairCourse, s: Span, pattern: P, c: u8)
+    requires all_seen { AllSeen w l.course s.from s.past screen.old }
+    requires some_dot { (s.from < s.past) × (s.past ≤ l.course.n + 1) }
+    ensures { screen.new ≡ pixels w (stretch_b (P.bits pattern) l.course s.from s.past) c screen.old }
+{
+    let last = s.past - 1;
+    let slope = l.slope(s.from);
+    let p = pace_of(w, l.course);
+    let at = byte_of(w, l.spot(s.from, slope.q));
+    let mut place = Place { at, e: slope.e };
+    for k in s.from..last {
+        put(screen, place.at, pattern.paints(l.course.number(k)), c);
+        place = place.next(l.course, p);
+    }
+    put(screen, place.at, pattern.paints(l.course.number(last)), c);
 }

@@ -1,84 +1,85 @@
--- `on_shape`: each arm asks the shape that its kind says, its points moved to the origin.
-use mathlib.Core.Path.{◌≡◌, refl, sym, ap, ap₂, ◌∙◌}
-use mathlib.Core.Bool.{true, false}
-use mathlib.Core.List.{List}
-use Prim.Native.Nat.{ℕ}
-use lib.IntN.{pos}
+-- `on_shape`: each arm asks the shape that the figure says, its points moved to the origin.
+use Rattle.std.proofs.Common.{◌≡◌, ℕ, true, false, pos, refl, sym, ap, ap₂, ◌∙◌}
 use Rattle.raster.specs.declared.dots.Dot.{Dot}
-use Rattle.raster.specs.declared.biased.Spot.{Spot}
 use Rattle.raster.specs.Shapes.{Shape, dot, moved_by}
-use Rattle.raster.specs.Biased.{dot_of}
+use Rattle.raster.proofs.Moved.{dot-moved}
 use Rattle.lines.specs.Line.{line}
 use Rattle.lines.specs.Dashes.{dashed}
-use Rattle.lines.specs.Courses.{line_of}
+use Rattle.lines.proofs.Moved.{line-moved, dashed-moved}
 use Rattle.circles.specs.Circle.{disc, outline}
-use Rattle.circles.specs.Reaches.{circle_of}
-use Rattle.brush.specs.Brush.{one, other, pattern, radius, shape_of}
-use Rattle.brush.proofs.Brushes.{holds-dot, holds-line, holds-all, holds-disc, holds-outline, holds-dashed, holds-none}
-use Rattle.brush.proofs.Placed.{dot-placed, line-placed, dashed-placed, circle-placed}
+use Rattle.circles.proofs.Moved.{circle-moved}
+use Rattle.brush.specs.declared.Figure.{Figure}
+use Rattle.brush.specs.Brush.{shape_of}
+use Rattle.brush.proofs.Held.{of-dot, of-line, of-dashed, of-disc, of-outline}
 use Rattle.contains.proofs.on_shape.Goals as goal
 
--- the brush holds the shape T, and R is T, moved to the origin
-as_held : (o : Dot) (b : List ℕ) (i j : ℕ) (R T : Shape) → R ≡ moved_by o T → shape_of b ≡ T → R (pos i) (pos j) ≡ moved_by o (shape_of b) (pos i) (pos j)
-as_held o b i j R T moved held = ap (λ (S : Shape). S (pos i) (pos j)) (moved ∙ ap (moved_by o) (sym held))
+-- the figure's shape is T, and R is T, moved to the origin
+as_held : (o : Dot) (g : Figure) (i j : ℕ) {R T : Shape} {h : Figure} → R ≡ moved_by o T → T ≡ shape_of h → g ≡ h → R (pos i) (pos j) ≡ moved_by o (shape_of g) (pos i) (pos j)
+as_held o g i j moved held is = ap (λ (S : Shape). S (pos i) (pos j)) (moved ∙ ap (moved_by o) (held ∙ ap shape_of (sym is)))
 
-pub returns-in-1 : goal.returns-in-1
-returns-in-1 c =
+pub placed-requires : goal.placed-requires
+placed-requires c = let w = of-dot c.args.brush.near c.in-Dot.is in let o = c.requires in (w.0, w.1, o.0, o.1)
+
+pub placed-requires-in-Line : goal.placed-requires-in-Line
+placed-requires-in-Line c = let w = (of-line c.args.brush.near c.in-Line.is).0 in let o = c.requires in (w.0, w.1, o.0, o.1)
+
+pub placed-requires-in-Line-2 : goal.placed-requires-in-Line-2
+placed-requires-in-Line-2 c = let w = (of-line c.args.brush.near c.in-Line.is).1 in let o = c.requires in (w.0, w.1, o.0, o.1)
+
+pub placed-requires-in-Dashed : goal.placed-requires-in-Dashed
+placed-requires-in-Dashed c = let w = (of-dashed c.args.brush.near c.in-Dashed.is).0 in let o = c.requires in (w.0, w.1, o.0, o.1)
+
+pub placed-requires-in-Dashed-2 : goal.placed-requires-in-Dashed-2
+placed-requires-in-Dashed-2 c = let w = (of-dashed c.args.brush.near c.in-Dashed.is).1 in let o = c.requires in (w.0, w.1, o.0, o.1)
+
+pub placed-requires-in-Disc : goal.placed-requires-in-Disc
+placed-requires-in-Disc c = let w = (of-disc c.args.brush.near c.in-Disc.is).0 in let o = c.requires in (w.0, w.1, o.0, o.1)
+
+pub placed-requires-in-Outline : goal.placed-requires-in-Outline
+placed-requires-in-Outline c = let w = (of-outline c.args.brush.near c.in-Outline.is).0 in let o = c.requires in (w.0, w.1, o.0, o.1)
+
+pub radius_of-requires : goal.radius_of-requires
+radius_of-requires c = (of-disc c.args.brush.near c.in-Disc.is).1
+
+pub radius_of-requires-in-Outline : goal.radius_of-requires-in-Outline
+radius_of-requires-in-Outline c = (of-outline c.args.brush.near c.in-Outline.is).1
+
+pub returns-in-Dot : goal.returns-in-Dot
+returns-in-Dot c =
     let g = c.args in
-    let b = g.brush.now in
-    let w = c.requires.word in
     c.on_dot.ensures
-    ∙ as_held g.o b g.column g.row _ _
-    (ap (λ (q : Spot). dot (dot_of q)) c.one.ensures ∙ dot-placed _ (w.0, w.1) (one b) (c.requires.near.dot c.in-1.is))
-    (holds-dot b c.in-1.is)
+    ∙ as_held g.o g.brush.figure g.d.column g.d.row {T = dot c.in-Dot.p} (ap dot c.placed.ensures.value ∙ dot-moved c.in-Dot.p g.o) refl c.in-Dot.is
 
-pub returns-in-2 : goal.returns-in-2
-returns-in-2 c =
+pub returns-in-Line : goal.returns-in-Line
+returns-in-Line c =
     let g = c.args in
-    let b = g.brush.now in
-    let w = c.requires.word in
-    let h = c.requires.near.line c.in-2.is in
     c.on_line.ensures
-    ∙ as_held g.o b g.column g.row _ _
-    (ap₂ (λ (x y : Spot). line (line_of x y)) c.one-in-2.ensures c.other.ensures ∙ line-placed _ (w.0, w.1) (one b) h.0 (other b) h.1)
-    (holds-line b c.in-2.is)
+    ∙ as_held g.o g.brush.figure g.d.column g.d.row
+    (ap₂ (λ (p q : Dot). line (record { from = p; to = q })) c.placed-in-Line.ensures.value c.placed-in-Line-2.ensures.value ∙ line-moved g.o c.in-Line.l)
+    refl c.in-Line.is
 
-pub returns-in-3 : goal.returns-in-3
-returns-in-3 c = let g = c.args in as_held g.o g.brush.now g.column g.row _ _ refl (holds-all g.brush.now c.in-3.is)
-
-pub returns-in-4 : goal.returns-in-4
-returns-in-4 c =
+pub returns-in-Dashed : goal.returns-in-Dashed
+returns-in-Dashed c =
     let g = c.args in
-    let b = g.brush.now in
-    let w = c.requires.word in
-    c.on_disc.ensures
-    ∙ as_held g.o b g.column g.row _ _
-    (ap (λ (q : Spot). disc (circle_of q (radius b))) c.one-in-4.ensures
-    ∙ circle-placed _ (w.0, w.1) (one b) (c.requires.near.disc c.in-4.is).0 true (radius b))
-    (holds-disc b c.in-4.is)
-
-pub returns-in-5 : goal.returns-in-5
-returns-in-5 c =
-    let g = c.args in
-    let b = g.brush.now in
-    let w = c.requires.word in
-    c.on_outline.ensures
-    ∙ as_held g.o b g.column g.row _ _
-    (ap (λ (q : Spot). outline (circle_of q (radius b))) c.one-in-5.ensures
-    ∙ circle-placed _ (w.0, w.1) (one b) (c.requires.near.outline c.in-5.is).0 false (radius b))
-    (holds-outline b c.in-5.is)
-
-pub returns-in-6 : goal.returns-in-6
-returns-in-6 c =
-    let g = c.args in
-    let b = g.brush.now in
-    let w = c.requires.word in
-    let h = c.requires.near.dashed c.in-6.is in
+    let k = c.in-Dashed.pattern in
     c.on_dashed.ensures
-    ∙ as_held g.o b g.column g.row _ _
-    (ap₂ (λ (x y : Spot). dashed (pattern b) (line_of x y)) c.one-in-6.ensures c.other-in-6.ensures
-    ∙ dashed-placed _ (w.0, w.1) (one b) h.0 (other b) h.1 (pattern b))
-    (holds-dashed b c.in-6.is)
+    ∙ as_held g.o g.brush.figure g.d.column g.d.row
+    (ap₂ (λ (p q : Dot). dashed k (record { from = p; to = q })) c.placed-in-Dashed.ensures.value c.placed-in-Dashed-2.ensures.value
+    ∙ dashed-moved k g.o c.in-Dashed.l)
+    refl c.in-Dashed.is
 
-pub returns-in_default : goal.returns-in_default
-returns-in_default c = let g = c.args in as_held g.o g.brush.now g.column g.row _ _ refl (holds-none g.brush.now assumption)
+pub returns-in-Disc : goal.returns-in-Disc
+returns-in-Disc c =
+    let g = c.args in
+    c.on_disc.ensures
+    ∙ as_held g.o g.brush.figure g.d.column g.d.row
+    ((λ i. disc (record { centre = c.placed-in-Disc.ensures.value i; radius = c.radius_of.ensures.value i })) ∙ circle-moved true g.o c.in-Disc.k)
+    refl c.in-Disc.is
+
+pub returns-in-Outline : goal.returns-in-Outline
+returns-in-Outline c =
+    let g = c.args in
+    c.on_outline.ensures
+    ∙ as_held g.o g.brush.figure g.d.column g.d.row
+    ((λ i. outline (record { centre = c.placed-in-Outline.ensures.value i; radius = c.radius_of-in-Outline.ensures.value i })) ∙ circle-moved false g.o c.in-Outline.k)
+    refl c.in-Outline.is

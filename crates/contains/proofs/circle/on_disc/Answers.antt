@@ -1,7 +1,6 @@
 -- `on_disc`: the distances' squares.
-use mathlib.Core.Path.{sym, ap₂, ◌∙◌}
-use mathlib.Core.Bool.{true}
-use Prim.Native.Nat.{ℕ}
+use Rattle.std.proofs.Common.{ℕ, true, sym, ap, ap₂, ◌∙◌}
+use Rattle.raster.specs.Biased.{gap_b}
 use Rattle.circles.specs.Reaches.{circle_at}
 use Rattle.circles.proofs.Distances.{circle-is}
 use Rattle.contains.proofs.circle.on_disc.Goals as goal
@@ -9,4 +8,7 @@ use Rattle.contains.proofs.circle.on_disc.Goals as goal
 pub returns : goal.returns
 returns c =
     let g = c.args in
-    c.reaches.ensures ∙ ap₂ (λ (x y : ℕ). circle_at true g.q x y) c.gap_of.ensures c.gap_of-2.ensures ∙ sym (circle-is true g.p g.q g.column g.row)
+    let at = c.spot-s.ensures in
+    c.reaches.ensures
+    ∙ ap₂ (λ (x y : ℕ). circle_at true g.q x y) (c.gap_of.ensures ∙ ap (gap_b g.p.x) at.0) (c.gap_of-2.ensures ∙ ap (gap_b g.p.y) at.1)
+    ∙ sym (circle-is true g.p g.q g.d.column g.d.row)

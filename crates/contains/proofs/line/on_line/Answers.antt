@@ -6,4 +6,4 @@ use Rattle.lines.proofs.Patterns.{all_ones}
 use Rattle.contains.proofs.line.on_line.Goals as goal
 
 pub returns : goal.returns
-returns c = let g = c.args in c.on_dashed.ensures ∙ all_ones (line_of g.p g.q) (pos g.column) (pos g.row)
+returns c = let g = c.args in c.on_dashed.ensures ∙ all_ones (line_of g.p g.q) (pos g.d.column) (pos g.d.row)

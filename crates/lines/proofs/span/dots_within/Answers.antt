@@ -1,52 +1,35 @@
 -- `lines::span::dots_within` meets its contract: both axes' steps.
-use Rattle.std.proofs.Common.{◌≡◌, ℕ, ◌+◌, ◌<◌, min, max, Bool, true, sym, ap, ◌∙◌, subst, ap₂, subst₂, arith}
-use mathlib.Core.Path.{subst⁻¹}
+use Rattle.std.proofs.Common.{◌≡◌, ℕ, min, max, Bool, true, sym, ap, ◌∙◌, subst, ap₂, subst₂}
 use Rattle.lines.specs.declared.span.Span.{Span}
-use Rattle.lines.specs.Spans.{span_of, covers_b, high_b, along_span, across_span, First, DotsWithin}
-use Rattle.lines.proofs.Courses.{low-along, low-across}
+use Rattle.lines.specs.Spans.{span_of, covers_b, along_span, across_span, First, DotsWithin}
 use Rattle.lines.proofs.Spans.{dots-within, all-within}
 use Rattle.lines.proofs.span.dots_within.Goals as goal
-
-small : (a n : ℕ) → a + n < 131072 → a < 131072
-small a n h = omega arith
 
 -- a span that the code finds
 found : (up : Bool) (a : ℕ) {s : Span} {u v lo hi : ℕ} → s ≡ span_of up a u v → u ≡ lo → v ≡ hi → s ≡ span_of up a lo hi
 found up a e p q = e ∙ ap₂ (λ (u v : ℕ). span_of up a u v) p q
 
-pub span_of-a-requires : goal.span_of-a-requires
-span_of-a-requires c =
-    let l = c.args.l in
-    let r = c.args.r in
-    (small l.along l.n c.requires.0.far, subst⁻¹ (λ (a : ℕ). a < 131072) c.along_of-2.ensures (low-along l.flat (high_b r) (c.requires.1, c.requires.2)))
-
-pub span_of-b-requires : goal.span_of-b-requires
-span_of-b-requires c =
-    let l = c.args.l in
-    let r = c.args.r in
-    (c.requires.0.wide, subst⁻¹ (λ (a : ℕ). a < 131072) c.across_of-2.ensures (low-across l.flat (high_b r) (c.requires.1, c.requires.2)))
-
 pub returns-then-covers-2 : goal.returns-then-covers-2
 returns-then-covers-2 c =
-    let l = c.args.l in
+    let l = c.args.whole.course in
     let r = c.args.r in
     let along : c.span_of-a.result ≡ along_span r l = found true l.along c.span_of-a.ensures c.along_of.ensures c.along_of-2.ensures in
     let across : c.span_of-b.result ≡ across_span r l = found l.up l.across c.span_of-b.ensures c.across_of.ensures c.across_of-2.ensures in
-    all-within r l c.requires.0
+    all-within r l c.args.whole.fair
     (ap (λ (s : Span). covers_b s l.n) (sym along) ∙ sym c.covers.ensures ∙ c.if-covers.true)
     (ap (λ (s : Span). covers_b s l.m) (sym across) ∙ sym c.covers-then-covers.ensures ∙ c.if-covers-2.true)
 
 pub returns : goal.returns
 returns c =
-    let l = c.args.l in
+    let l = c.args.whole.course in
     let r = c.args.r in
-    let u = c.first_at.result in
-    let v = c.first_at-2.result in
+    let u = c.first.result in
+    let v = c.first-2.result in
     let along : c.span_of-a.result ≡ along_span r l = found true l.along c.span_of-a.ensures c.along_of.ensures c.along_of-2.ensures in
     let across : c.span_of-b.result ≡ across_span r l = found l.up l.across c.span_of-b.ensures c.across_of.ensures c.across_of-2.ensures in
     subst₂ (λ (f p : ℕ). DotsWithin r l f p)
     (sym (c.larger.ensures ∙ ap (λ (t : Span). max t.from u) along))
     (sym (c.smaller.ensures ∙ ap (λ (t : Span). min t.past v) along))
-    (dots-within r l c.requires.0 u v
-    (subst (λ (t : Span). First l t.from u) across c.first_at.ensures)
-    (subst (λ (t : Span). First l t.past v) across c.first_at-2.ensures))
+    (dots-within r l c.args.whole.fair u v
+    (subst (λ (t : Span). First l t.from u) across c.first.ensures)
+    (subst (λ (t : Span). First l t.past v) across c.first-2.ensures))
