@@ -23,18 +23,12 @@ pub record Going (w o : ℕ) (l : Course) (first last c : ℕ) (s₀ s : List �
 -- ---- at the first dot, q aside
 module _ (w : ℕ) (l : Course) (first last : ℕ) (s₀ : List ℕ) (seen : AllSeen w l first (suc last) s₀) (q e : ℕ)
     (h : Fair l × Reached l first q e × (first ≤ last) × (last ≤ l.n)) where
-  pub first-placed : Placed w (line_spot l first)
-  first-placed = (seen first (le_refl first) (omega (arith, h.2))).0
-
   pub may-begin : Fair l × (first ≤ l.n) × (q ≤ l.m)
   may-begin = let g : first ≤ l.n = omega (arith, h.2, h.3) in (h.0, g, at_most l first q e g h.1)
 
   -- its spot
   pub first-spot : {p : Spot} → p ≡ spot_at l first q → p ≡ line_spot l first
   first-spot z = z ∙ ap (λ (q : ℕ). spot_at l first q) h.1.is_offset
-
-  pub spot-placed : {p : Spot} → p ≡ spot_at l first q → Placed w p
-  spot-placed z = subst⁻¹ (λ (p : Spot). Placed w p) (first-spot z) first-placed
 
   pub begins : (o c : ℕ) {at : ℕ} {p : Spot} → p ≡ spot_at l first q → at ≡ byte_b w p → Going w o l first last c s₀ s₀ first at e
   begins o c z b =

@@ -45,13 +45,13 @@ module _ (l : Course) (f : Fair l) (q : ℕ) (q1 : 0 < q) (qm : q ≤ l.m) where
   first_of = (2 * n * q - h + (2 * m - 1)) / (2 * m)
 
   -- 2n fits q times where h is taken off
-  pub room_for : h ≤ 2 * n * q
+  room_for : h ≤ 2 * n * q
   room_for = omega (arith, half_le l.up l.n, mul-le-mul_left (2 * n) q1)
 
   ends_by : 2 * n * q ≤ n * (2 * m)
   ends_by = omega (arith, mul-le-mul_left (2 * n) qm, often n m)
 
-  pub first-limit : first_of ≤ n
+  first-limit : first_of ≤ n
   first-limit = less ((div-lt_iff_lt-mul (omega arith)).1 (omega (arith, ends_by, add-mul n 1 (2 * m), one-mul (2 * m))))
     where
       less : {a b : ℕ} → a < b + 1 → a ≤ b

@@ -70,7 +70,7 @@ pub fn course_of(p: Spot, q: Spot) -> Course
     }
 }
 
-// A course none of whose dots leaves the biased numbers.
+// A course none of whose dots leaves the biased numbers. `course_of` takes any points, so that a course alone may not be one.
 #[derive(Clone, Copy)]
 pub struct FairCourse {
     pub course: Course,

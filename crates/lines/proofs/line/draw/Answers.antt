@@ -4,9 +4,6 @@ use Rattle.lines.proofs.Walks.{stretched}
 use Rattle.lines.proofs.Drawn.{framed, may-cut, none-drawn, all_seen, some-drawn}
 use Rattle.lines.proofs.line.draw.Goals as goal
 
-pub rect_of-requires : goal.rect_of-requires
-rect_of-requires g c = c.requires.fitting.sane
-
 pub dots_within-s-requires : goal.dots_within-s-requires
 dots_within-s-requires g c =
     let a = c.args in

@@ -5,7 +5,7 @@ use Rattle.lines.specs.Dashes.{lit}
 use Rattle.lines.specs.Courses.{number_b, lit_b, Fair}
 use Rattle.lines.specs.Walks.{AllSeen, Reached}
 use Rattle.lines.proofs.Walks.{stretched}
-use Rattle.lines.proofs.Going.{first-placed, may-begin, spot-placed, begins, on-screen, ends, may-go, one_on}
+use Rattle.lines.proofs.Going.{may-begin, begins, on-screen, ends, may-go, one_on}
 use Rattle.lines.proofs.walk.walk.Goals as goal
 
 -- ---- the last of the dots is before their end
@@ -19,13 +19,6 @@ seen : (w : ℕ) (l : Course) {a b : ℕ} (s : List ℕ) → a < b → AllSeen w
 seen w l s h v k g i = v k g (subst (λ (n : ℕ). k < n) (last_of h) i)
 
 -- ---- before the loop
-pub pace_of-p-requires : goal.pace_of-p-requires
-pace_of-p-requires g c =
-    let a = c.args in
-    let h = c.requires.some_dot in
-    (first-placed a.w a.l.course a.s.from (a.s.past - 1) a.screen.now (seen a.w a.l.course a.screen.now h.0 c.requires.all_seen) _ _
-    (to_last a.l.fair h c.slope-slope.ensures)).narrow
-
 pub spot-requires : goal.spot-requires
 spot-requires g c =
     let a = c.args in
@@ -33,13 +26,6 @@ spot-requires g c =
     let b = may-begin a.w a.l.course a.s.from (a.s.past - 1) a.screen.now (seen a.w a.l.course a.screen.now h.0 c.requires.all_seen) _ _
     (to_last a.l.fair h c.slope-slope.ensures) in
     (b.1, b.2)
-
-pub byte_of-at-requires : goal.byte_of-at-requires
-byte_of-at-requires g c =
-    let a = c.args in
-    let h = c.requires.some_dot in
-    spot-placed a.w a.l.course a.s.from (a.s.past - 1) a.screen.now (seen a.w a.l.course a.screen.now h.0 c.requires.all_seen) _ _
-    (to_last a.l.fair h c.slope-slope.ensures) c.spot.ensures
 
 pub loop-k-init : goal.loop-k-init
 loop-k-init g c =

@@ -1,8 +1,8 @@
 -- `lines::course::FairCourse::first` meets its contract: none, or one division rounded up.
-use Rattle.std.proofs.Common.{◌≡◌, ℕ, ◌+◌, ◌-◌, ◌*◌, ◌/◌, ◌<◌, ◌≤◌, ◌∙◌, arith}
+use Rattle.std.proofs.Common.{◌≡◌, ℕ, ◌+◌, ◌-◌, ◌*◌, ◌/◌, ◌<◌, ◌∙◌, arith}
 use mathlib.Core.Path.{subst⁻¹}
 use Rattle.lines.specs.Spans.{First}
-use Rattle.lines.proofs.Spans.{first-never, first-is, room_for}
+use Rattle.lines.proofs.Spans.{first-never, first-is}
 use Rattle.lines.proofs.course.FairCourse.first.Goals as goal
 
 some : (q : ℕ) → (q ≡ 0 → ⊥) → 0 < q
@@ -14,14 +14,6 @@ found t h m = λ i. (t i - h i + (2 * m i - 1)) / (2 * m i)
 
 pub returns-then-l-q : goal.returns-then-l-q
 returns-then-l-q c = first-never c.args.self.course c.args.q c.if-l-q.true
-
-pub overflow_sub-t : goal.overflow_sub-t
-overflow_sub-t c =
-    as-large (c.wide.ensures ∙ c.half.ensures) c.twice_of.ensures.0
-    (room_for c.args.self.course c.args.self.fair c.args.q (some c.args.q c.if-q-eq0.false) c.if-l-q.false)
-  where
-    as-large : {a b x y : ℕ} → a ≡ x → b ≡ y → x ≤ y → a ≤ b
-    as-large p q h = omega arith
 
 pub returns : goal.returns
 returns c =
