@@ -95,7 +95,7 @@ tested {r} {s} {t} {u} f e = go r (same s u) refl refl
     go false false p q = p ∙ sym q
 
 -- the same, as the library says it
-same-pointwise : (s t : List ℕ) → same s t ≡ pointwise eqb s t
+pub same-pointwise : (s t : List ℕ) → same s t ≡ pointwise eqb s t
 unfolding same
 same-pointwise [] [] = refl
 same-pointwise [] (y ∷ ys) = refl
