@@ -23,7 +23,7 @@ pub struct Block {
 #[derive(Clone, Copy, PartialEq, Eq, Debug)]
 pub struct Malformed;
 
-// 0 and how many bytes of the record are in use now; or 32 and as many as were given.
+// 0 and how many bytes of the record are in use now; or 32 and as many as were given. A number, as C reads it.
 #[repr(C)]
 #[derive(Clone, Copy)]
 pub struct Recorded {

@@ -1,12 +1,10 @@
 -- The loop of a replay: what is found from here is what is found.
-use Prim.Native.Nat.{ℕ, zero, suc, ◌+◌, ◌<◌, ◌≤◌}
+use Prim.Native.Nat.{ℕ, zero, suc, ◌+◌, ◌≤◌}
 use mathlib.Core.Path.{◌≡◌, refl, sym, ap, ◌∙◌}
 use mathlib.Core.Bool.{Bool, true, false, cond, not}
 use mathlib.Core.List.{List, [], ◌∷◌}
 use native.Mathlib.Numerals.{add-one}
 use native.Mathlib.Omega.{arith}
-use borrow.Author.Tests.{ltb-true, ltb-false}
-use lib.Dec.{ltb}
 use lib.ListN.{length, drop, length-drop}
 use Rattle.player.specs.Run.{Answer}
 use Rattle.rules.specs.Environment.{Env}
@@ -90,14 +88,6 @@ module _ {w t : List ℕ} {e₀ : Env} {s₀ : List ℕ} {e : Env} {s rest : Lis
   pub at-end : Ok None ≡ block_of rest → agreeing k e s ≡ replay w t e₀ s₀
   unfolding replay_from
   at-end p = by-block (Ok None) p
-
-  -- there is a byte of it
-  pub some_byte : {m : Malformed} → Err m ≡ block_of rest → k < length t
-  some_byte p = go (ltb 0 (length rest)) refl
-    where
-      go : (x : Bool) → ltb 0 (length rest) ≡ x → k < length t
-      go true h = omega (arith, ltb-true 0 (length rest) h, c.few)
-      go false h = let z = text-ends rest (omega (arith, ltb-false 0 (length rest) h)) ∙ sym p in absurd (cc)
 
   pub at-spoilt : {m : Malformed} → Err m ≡ block_of rest → spoilt (k + 1) e s ≡ replay w t e₀ s₀
   unfolding replay_from

@@ -18,7 +18,7 @@ pub struct Pair {
 }
 
 // 0, and all blocks agree, so many; 33 and the block that differs, counted from 1, with what it says and what came now; or 34 and the
-// block that is malformed. The environment is as the last run left it.
+// block that is malformed. The environment is as the last run left it. The numbers stay numbers: C reads them.
 #[repr(C)]
 #[derive(Clone, Copy)]
 pub struct Replayed {
@@ -51,7 +51,7 @@ pub fn replay(list: &[u16], screen: &mut [u8], mut env: Env, lines: &[u8]) -> Re
     ensures { Promise list.now lines.now env screen.old result screen.new }
 {
     let mut rest = lines;
-    let mut k = 0;
+    let mut k = 0; // counted by hand, as the count is what is told, and the text alone says how many there are
     loop {
         let block = match read_block(rest) {
             Ok(None) => return told(0, k, env),
