@@ -1,6 +1,9 @@
 -- What appending answers, by its tests.
-use Prim.Native.Nat.{ℕ, ◌+◌, ◌<◌, ◌≤◌}
-use mathlib.Core.Path.{◌≡◌, refl, sym, ap₂, ◌∙◌}
+use Prim.Native.Nat.{ℕ, ◌+◌, ◌^◌, ◌<◌, ◌≤◌}
+use mathlib.Core.Path.{◌≡◌, refl, sym, ap, ap₂, ◌∙◌}
+use native.Mathlib.Omega.{arith}
+use Rattle.std.specs.Prelude.{Some, None, Result, Ok, Err}
+use Rattle.std.specs.Result.{OkIff, result_ok}
 use mathlib.Core.Bool.{Bool, true, false, cond, ◌||◌}
 use mathlib.Core.List.{List}
 use borrow.Author.Tests.{lt-ltb, le-ltb}
@@ -12,6 +15,26 @@ use Rattle.text.specs.Puts.{Puts}
 use Rattle.record.specs.Block.{block_text}
 use Rattle.record.specs.Append.{Left, left, appending}
 
+-- ---- a number as it was asked for, where it is not too large
+module _ {E : Type 0} {v : ℕ} (r : Result ℕ E) (c : OkIff r (v < 2 ^ 32) v) where
+  pub taken : {n : ℕ} → Some n ≡ result_ok r → (n ≡ v) × (n ≤ limit)
+  taken {n} e = go r c e
+    where
+      go : (r : Result ℕ E) → OkIff r (v < 2 ^ 32) v → Some n ≡ result_ok r → (n ≡ v) × (n ≤ limit)
+      go (Ok x) c e = let same : n ≡ x = cc in (omega (arith, same, c.1), omega (arith, same, c.0, c.1))
+      go (Err x) c e = absurd (cc)
+
+  pub too_large : None ≡ result_ok r → limit < v
+  too_large e = go r c e
+    where
+      go : (r : Result ℕ E) → OkIff r (v < 2 ^ 32) v → None ≡ result_ok r → limit < v
+      go (Ok x) c e = absurd (cc)
+      go (Err x) c e = omega (arith, c)
+
+pub same-asked : (r : List ℕ) (used : ℕ) {b b' a a' s s' : ℕ} → b ≡ b' → a ≡ a' → s ≡ s' → appending r used b a s ≡ appending r used b' a' s'
+same-asked r used {b' = b'} {a' = a'} {s = s} p q f = ap₂ (λ (b a : ℕ). appending r used b a s) p q ∙ ap (appending r used b' a') f
+
+-- ---- what is answered
 module _ (r : List ℕ) (used b a s : ℕ) where
   abbrev text : List ℕ
   text = block_text b a s

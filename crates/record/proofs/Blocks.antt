@@ -1,6 +1,7 @@
 -- A block put and a block read: what is put is read back, and what is read was put so. So a text is malformed exactly where no block stands.
 use Prim.Native.Nat.{ℕ, ◌+◌, ◌≤◌}
 use mathlib.Core.Path.{◌≡◌, refl, sym, ap, ◌∙◌, subst}
+use Rattle.std.specs.Prelude.{Option, Some, None, Result, Ok, Err}
 use mathlib.Core.List.{List, [], ◌∷◌, ◌++◌, append_assoc}
 use native.Mathlib.Omega.{arith}
 use lib.ListN.{length, drop, length-append}
@@ -9,12 +10,11 @@ use Rattle.text.specs.Number.{limit}
 use Rattle.text.specs.Decimal.{decimal}
 use Rattle.text.specs.Puts.{Puts}
 use Rattle.text.proofs.Joining.{and_then}
-use Rattle.record.specs.declared.line.Line as Line'
-use Rattle.record.specs.declared.line.Line.TheVariants as Line
-use Rattle.record.specs.declared.Block as Block'
-use Rattle.record.specs.declared.Block.TheVariants as Block
+use Rattle.record.specs.declared.line.Line.{Line}
+use Rattle.record.specs.declared.Block.{Block}
+use Rattle.record.specs.declared.Malformed.{Malformed}
 use Rattle.record.specs.Block.{budget_label, answer_label, steps_label, line_text, block_text}
-use Rattle.record.specs.Read.{line_of, first, second, third, block_of}
+use Rattle.record.specs.Read.{line, line_of, block, first, second, third, three_lines, due, block_of}
 use Rattle.record.proofs.Lines.{length-line, line-back, Stood, line-stood}
 
 pub length-block : (b a s : ℕ) → length (block_text b a s) ≡ length (decimal b) + length (decimal a) + length (decimal s) + 23
@@ -31,27 +31,23 @@ unfolding block_text
 block-put b a s p q f = and_then p (and_then q f)
 
 -- ---- read, by its lines
-pub text-ends : (t : List ℕ) → length t ≡ 0 → Block.End ≡ block_of t
+pub text-ends : (t : List ℕ) → length t ≡ 0 → Ok None ≡ block_of t
 unfolding block_of
 text-ends [] h = refl
 text-ends (x ∷ xs) h = absurd (omega arith)
 
-opened : (t : List ℕ) → (length t ≡ 0 → ⊥) → first t (line_of budget_label t) ≡ block_of t
+pub opened : (t : List ℕ) → (length t ≡ 0 → ⊥) → due (three_lines t) ≡ block_of t
 unfolding block_of
 opened [] n = absurd (n refl)
 opened (x ∷ xs) n = refl
 
-module _ (t : List ℕ) where
-  pub by_first : (length t ≡ 0 → ⊥) → (x : Line'.Line) → x ≡ line_of budget_label t → first t x ≡ block_of t
-  by_first n x e = ap (first t) e ∙ opened t n
+module _ (t : List ℕ) {b i : ℕ} (p : Some (line b i) ≡ line_of budget_label t) where
+  pub by-second : (x : Option Line) → x ≡ line_of answer_label (drop i t) → second t b i x ≡ three_lines t
+  by-second x e = ap (second t b i) e ∙ ap (first t) p
 
-  module _ (n : length t ≡ 0 → ⊥) {b i : ℕ} (p : Line.Of b i ≡ line_of budget_label t) where
-    pub by-second : (x : Line'.Line) → x ≡ line_of answer_label (drop i t) → second t b i x ≡ block_of t
-    by-second x e = ap (second t b i) e ∙ by_first n (Line.Of b i) p
-
-    module _ {a j : ℕ} (q : Line.Of a j ≡ line_of answer_label (drop i t)) where
-      pub by-third : (x : Line'.Line) → x ≡ line_of steps_label (drop (i + j) t) → third b a (i + j) x ≡ block_of t
-      by-third x e = ap (third b a (i + j)) e ∙ by-second (Line.Of a j) q
+  module _ {a j : ℕ} (q : Some (line a j) ≡ line_of answer_label (drop i t)) where
+    pub by-third : (x : Option Line) → x ≡ line_of steps_label (drop (i + j) t) → third b a (i + j) x ≡ three_lines t
+    by-third x e = ap (third b a (i + j)) e ∙ by-second (Some (line a j)) q
 
 -- ---- what is put is read back
 module _ (b a s : ℕ) (behind : List ℕ) where
@@ -71,7 +67,7 @@ module _ (b a s : ℕ) (behind : List ℕ) where
   unfolding block_text
   apart = append_assoc l₁ (l₂ ++ l₃) behind ∙ ap (λ (t : List ℕ). l₁ ++ t) (append_assoc l₂ l₃ behind)
 
-  pub block_back : b ≤ limit → a ≤ limit → s ≤ limit → block_of (block_text b a s ++ behind) ≡ Block.Of b a s (length (block_text b a s))
+  pub block_back : b ≤ limit → a ≤ limit → s ≤ limit → block_of (block_text b a s ++ behind) ≡ Ok (Some (block b a s (length (block_text b a s))))
   unfolding block_text
   block_back hb ha hs =
       let x = l₂ ++ (l₃ ++ behind) in
@@ -83,7 +79,7 @@ module _ (b a s : ℕ) (behind : List ℕ) where
       let q = sym (ap (line_of answer_label) two ∙ line-back answer_label a (l₃ ++ behind) ha) in
       let r = sym (ap (line_of steps_label) three ∙ line-back steps_label s behind hs) in
       let size : length l₁ + length l₂ + length l₃ ≡ length (l₁ ++ (l₂ ++ l₃)) = omega (arith, length-append l₁ (l₂ ++ l₃), length-append l₂ l₃) in
-      ap block_of apart ∙ sym (by-third all some p q (Line.Of s (length l₃)) r) ∙ ap (Block.Of b a s) size
+      ap block_of apart ∙ sym (ap due (by-third all p q (Some (line s (length l₃))) r) ∙ opened all some) ∙ ap (λ (k : ℕ). Ok (Some (block b a s k))) size
 
 -- ---- what is read was put so
 pub record Whole (t : List ℕ) (b a s k : ℕ) : Type 0 where
@@ -93,10 +89,10 @@ pub record Whole (t : List ℕ) (b a s k : ℕ) : Type 0 where
   pub answer : a ≤ limit
   pub steps : s ≤ limit
 
-abbrev Only : List ℕ → Block'.Block → Type 0
-Only t (Block.Of b a s size) = Whole t b a s size
-Only t Block.Malformed = Unit {0}
-Only t Block.End = Unit {0}
+abbrev Only : List ℕ → Result (Option Block) Malformed → Type 0
+Only t (Ok (Some x)) = Whole t x.budget x.answer x.steps x.size
+Only t (Ok None) = Unit {0}
+Only t (Err m) = Unit {0}
 
 module _ (t : List ℕ) where
   whole : {b a s i j k : ℕ} → Stood budget_label t b i → Stood answer_label (drop i t) a j → Stood steps_label (drop (i + j) t) s k → Whole t b a s (i + j + k)
@@ -118,29 +114,29 @@ module _ (t : List ℕ) where
         steps = r.small;
       }
 
-  third-only : {b a i j : ℕ} → Stood budget_label t b i → Stood answer_label (drop i t) a j → (x : Line'.Line) → x ≡ line_of steps_label (drop (i + j) t)
-      → Only t (third b a (i + j) x)
-  third-only p q Line.Broken e = tt
-  third-only {i = i} {j = j} p q (Line.Of s k) e = whole p q (line-stood steps_label (drop (i + j) t) e)
+  third-only : {b a i j : ℕ} → Stood budget_label t b i → Stood answer_label (drop i t) a j → (x : Option Line) → x ≡ line_of steps_label (drop (i + j) t)
+      → Only t (due (third b a (i + j) x))
+  third-only p q None e = tt
+  third-only {i = i} {j = j} p q (Some l) e = whole p q (line-stood steps_label (drop (i + j) t) e)
 
-  second-only : {b i : ℕ} → Stood budget_label t b i → (x : Line'.Line) → x ≡ line_of answer_label (drop i t) → Only t (second t b i x)
-  second-only p Line.Broken e = tt
-  second-only {i = i} p (Line.Of a j) e = third-only p (line-stood answer_label (drop i t) e) (line_of steps_label (drop (i + j) t)) refl
+  second-only : {b i : ℕ} → Stood budget_label t b i → (x : Option Line) → x ≡ line_of answer_label (drop i t) → Only t (due (second t b i x))
+  second-only p None e = tt
+  second-only {i = i} p (Some l) e = third-only p (line-stood answer_label (drop i t) e) (line_of steps_label (drop (i + l.size) t)) refl
 
-  first-only : (x : Line'.Line) → x ≡ line_of budget_label t → Only t (first t x)
-  first-only Line.Broken e = tt
-  first-only (Line.Of b i) e = second-only (line-stood budget_label t e) (line_of answer_label (drop i t)) refl
+  first-only : (x : Option Line) → x ≡ line_of budget_label t → Only t (due (first t x))
+  first-only None e = tt
+  first-only (Some l) e = second-only (line-stood budget_label t e) (line_of answer_label (drop l.size t)) refl
 
 all-only : (t : List ℕ) → Only t (block_of t)
 unfolding block_of
 all-only [] = tt
 all-only (x ∷ xs) = first-only (x ∷ xs) (line_of budget_label (x ∷ xs)) refl
 
-pub block-whole : (t : List ℕ) {b a s size : ℕ} → Block.Of b a s size ≡ block_of t → Whole t b a s size
+pub block-whole : (t : List ℕ) {b a s size : ℕ} → Ok (Some (block b a s size)) ≡ block_of t → Whole t b a s size
 block-whole t h = subst (Only t) (sym h) (all-only t)
 
 -- so it takes a byte at least, and none past the text's end
-pub block-ends : (t : List ℕ) {b a s size : ℕ} → Block.Of b a s size ≡ block_of t → (1 ≤ size) × (size ≤ length t)
+pub block-ends : (t : List ℕ) {b a s size : ℕ} → Ok (Some (block b a s size)) ≡ block_of t → (1 ≤ size) × (size ≤ length t)
 block-ends t {b} {a} {s} {size} h =
     let w = block-whole t h in
     let long : length t ≡ length (block_text b a s) + length (drop size t) = ap length w.text ∙ length-append (block_text b a s) (drop size t) in

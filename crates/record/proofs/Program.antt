@@ -3,6 +3,7 @@ use Prim.Native.Nat.{ℕ, ◌+◌, ◌≤◌}
 use mathlib.Core.Path.{◌≡◌, refl, sym, ap, ◌∙◌, subst}
 use mathlib.Core.Logic.{◌↔◌}
 use mathlib.Core.Bool.{Bool, true, false, cond, ◌||◌}
+use Rattle.std.specs.Prelude.{Some, Ok}
 use mathlib.Core.List.{List, ◌++◌, append_assoc}
 use native.Mathlib.Omega.{arith}
 use borrow.Author.Tests.{ltb-true, ltb-false}
@@ -11,9 +12,8 @@ use lib.ListN.{length, take, drop, length-append}
 use lib.Seq.{sets, sets-eq, take_at, drop_at, length-sets, length-take-le}
 use Rattle.text.specs.Number.{limit}
 use Rattle.record.specs.declared.Recorded.{Recorded}
-use Rattle.record.specs.declared.Block.TheVariants as Block
 use Rattle.record.specs.Block.{block_text}
-use Rattle.record.specs.Read.{block_of}
+use Rattle.record.specs.Read.{block, block_of}
 use Rattle.record.specs.Append.{Left, left, appending, Promise}
 use Rattle.record.proofs.Blocks.{block_back}
 
@@ -59,7 +59,7 @@ pub record Appends (r : List ℕ) (used b a s : ℕ) (x : Recorded) (r' : List �
   pub in_use : take x.used r' ≡ take used r ++ block_text b a s
   pub behind : drop x.used r' ≡ drop x.used r
   pub as_long : length r' ≡ length r
-  pub read_back : block_of (drop used r') ≡ Block.Of b a s (length (block_text b a s))
+  pub read_back : block_of (drop used r') ≡ Ok (Some (block b a s (length (block_text b a s))))
 
 appends : (r : List ℕ) (used b a s : ℕ) → Fits r used b a s
     → Appends r used b a s (record { number = 0; used = used + length (block_text b a s) }) (sets r used (block_text b a s))

@@ -1,5 +1,5 @@
 -- Document 02, T-12: what appending a block answers, and what it leaves of the record.
-use Rattle.std.specs.Prelude.{ℕ, ◌+◌, ◌≡◌, Bool, cond, ◌||◌, List, ltb, length}
+use Rattle.std.specs.Prelude.{ℕ, ◌+◌, ◌≡◌, Bool, cond, ◌||◌, Option, Some, None, List, ltb, length}
 use Rattle.std.proofs.lemmas.List.Edits.{sets}
 use Rattle.text.specs.Number.{limit}
 use Rattle.record.specs.declared.Recorded.{Recorded}
@@ -27,3 +27,8 @@ appending r used b a s =
 -- what is promised of any record and any numbers
 abbrev pub Promise : List ℕ → ℕ → ℕ → ℕ → ℕ → Recorded → List ℕ → Type 0
 Promise r used b a s answer r' = record { answer = answer; lines = r' } ≡ appending r used b a s
+
+-- what is answered where so many bytes were in use: as many as are in use now with 0, or none of the block with 32
+abbrev pub told : ℕ → Option ℕ → Recorded
+told used None = record { number = 32; used = used }
+told used (Some end) = record { number = 0; used = end }

@@ -4,22 +4,26 @@
 mod line; // a line: what it is called, a number, a line feed
 
 ghost use Rattle.std.specs.Prelude.{◌≡◌};
-ghost use Rattle.record.specs.Read.{block_of};
-ghost use Rattle.record.specs.Append.{Promise};
+ghost use Rattle.record.specs.Read.{three_lines, block_of};
+ghost use Rattle.record.specs.Append.{Promise, told};
 
-use crate::line::{Line, put_line, read_line};
+use crate::line::{put_line, read_line};
 use text::decimal::width;
 
-// The block that stands first in a text: its budget, answer and steps, and how many bytes it takes. Or there is none there, or the
-// text ends.
-#[derive(Clone, Copy)]
-pub enum Block {
-    Of(u32, u32, u32, usize),
-    Malformed,
-    End,
+// A block that stands first in a text: its budget, answer and steps, and how many bytes it takes.
+#[derive(Clone, Copy, PartialEq, Eq, Debug)]
+pub struct Block {
+    pub budget: u32,
+    pub answer: u32,
+    pub steps: u32,
+    pub size: usize,
 }
 
-// 0 and how many bytes of the record are in use now; or 32 and as many as were given.
+// A block is due, and none stands there.
+#[derive(Clone, Copy, PartialEq, Eq, Debug)]
+pub struct Malformed;
+
+// 0 and how many bytes of the record are in use now; or 32 and as many as were given. A number, as C reads it.
 #[repr(C)]
 #[derive(Clone, Copy)]
 pub struct Recorded {
@@ -27,63 +31,67 @@ pub struct Recorded {
     pub used: usize,
 }
 
-const MOST: u64 = 0xffff_ffff;
-
-// Any text.
-pub fn read_block(text: &[u8]) -> Block
+// Any text; where it ends no block is due.
+pub fn read_block(text: &[u8]) -> Result<Option<Block>, Malformed>
     ensures { result ≡ block_of text.now }
 {
-    if text.len() == 0 {
-        return Block::End;
+    if text.is_empty() {
+        return Ok(None);
     }
-    let first = read_line(text, b"budget=");
-    let Line::Of(budget, i) = first else {
-        return Block::Malformed;
-    };
-    let second = read_line(&text[i..], b"answer=");
-    let Line::Of(answer, j) = second else {
-        return Block::Malformed;
-    };
-    let from = i + j;
-    let third = read_line(&text[from..], b"steps=");
-    let Line::Of(steps, k) = third else {
-        return Block::Malformed;
-    };
-    Block::Of(budget, answer, steps, from + k)
+    match read_lines(text) {
+        Some(block) => Ok(Some(block)),
+        None => Err(Malformed),
+    }
+}
+
+// The block of the three lines that stand first in a text.
+fn read_lines(text: &[u8]) -> Option<Block>
+    ensures { result ≡ three_lines text.now }
+{
+    let budget = read_line(text, b"budget=")?;
+    let behind = &text[budget.size..];
+    let answer = read_line(behind, b"answer=")?;
+    let behind = &behind[answer.size..];
+    let steps = read_line(behind, b"steps=")?;
+    Some(Block {
+        budget: budget.number,
+        answer: answer.number,
+        steps: steps.number,
+        size: budget.size + answer.size + steps.size,
+    })
 }
 
 // One block more, behind the bytes in use: any record, any numbers.
 pub fn append(lines: &mut [u8], used: usize, budget: u64, answer: u64, steps: u64) -> Recorded
     ensures { Promise lines.old used budget answer steps result lines.new }
 {
-    if MOST < budget {
-        return Recorded { number: 32, used };
+    match append_block(lines, used, budget, answer, steps) {
+        Some(end) => Recorded {
+            number: 0,
+            used: end,
+        },
+        None => Recorded { number: 32, used },
     }
-    if MOST < answer {
-        return Recorded { number: 32, used };
-    }
-    if MOST < steps {
-        return Recorded { number: 32, used };
-    }
-    append_block(lines, used, budget as u32, answer as u32, steps as u32)
 }
 
-// The same where no number is too large.
-fn append_block(lines: &mut [u8], used: usize, budget: u32, answer: u32, steps: u32) -> Recorded
-    ensures { Promise lines.old used budget answer steps result lines.new }
+// The same; how many bytes are in use now, where there is room and no number is too large.
+fn append_block(
+    lines: &mut [u8],
+    used: usize,
+    budget: u64,
+    answer: u64,
+    steps: u64,
+) -> Option<usize>
+    ensures { Promise lines.old used budget answer steps (told used result) lines.new }
 {
+    let budget = u32::try_from(budget).ok()?;
+    let answer = u32::try_from(answer).ok()?;
+    let steps = u32::try_from(steps).ok()?;
     let size = width(budget) + width(answer) + width(steps) + 23;
-    if lines.len() < used {
-        return Recorded { number: 32, used };
-    }
-    if lines.len() - used < size {
-        return Recorded { number: 32, used };
+    if lines.len().checked_sub(used)? < size {
+        return None;
     }
     let second = put_line(b"budget=", budget, lines, used);
     let third = put_line(b"answer=", answer, lines, second);
-    let end = put_line(b"steps=", steps, lines, third);
-    Recorded {
-        number: 0,
-        used: end,
-    }
+    Some(put_line(b"steps=", steps, lines, third))
 }

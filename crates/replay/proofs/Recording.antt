@@ -5,7 +5,9 @@ use mathlib.Core.List.{List, [], ◌∷◌, ◌++◌, append_assoc, append-nil}
 use lib.ListN.{take, drop}
 use lib.Seq.{drop-append_seam}
 use Rattle.text.specs.Number.{limit}
-use Rattle.record.specs.declared.Block as Block'
+use Rattle.std.specs.Prelude.{Option, Result}
+use Rattle.record.specs.declared.Block.{Block}
+use Rattle.record.specs.declared.Malformed.{Malformed}
 use Rattle.record.specs.Append.{left, appending}
 use Rattle.record.proofs.Blocks.{block_back}
 use Rattle.record.proofs.Program.{Appends, appended}
@@ -34,7 +36,7 @@ read_back [] small = refl
 read_back (x ∷ xs) small =
     let t = text_of x ++ record_text xs in
     opened t
-    ∙ ap (λ (b : Block'.Block). onto b (λ size. entries (drop size t)))
+    ∙ ap (λ (b : Result (Option Block) Malformed). onto b (λ size. entries (drop size t)))
     (block_back x.budget x.answer x.steps (record_text xs) small.0.budget small.0.answer small.0.steps)
     ∙ ap (λ (ys : List Entry). whole x.budget x.answer x.steps ∷ ys)
     (ap entries (drop-append_seam (text_of x) (record_text xs)) ∙ read_back xs small.1)

@@ -1,7 +1,7 @@
 -- Document 02, T-12: the blocks of a record in their order, read apart from any run. Behind a malformed one nothing is read.
-use Rattle.std.specs.Prelude.{ℕ, zero, suc, List, [], ◌∷◌, length, drop}
-use Rattle.record.specs.declared.Block as Block'
-use Rattle.record.specs.declared.Block.TheVariants as Block
+use Rattle.std.specs.Prelude.{ℕ, zero, suc, Option, Some, None, Result, Ok, Err, List, [], ◌∷◌, length, drop}
+use Rattle.record.specs.declared.Block.{Block}
+use Rattle.record.specs.declared.Malformed.{Malformed}
 use Rattle.record.specs.Read.{block_of}
 
 pub data Entry : Type 0 where
@@ -9,10 +9,10 @@ pub data Entry : Type 0 where
   malformed : Entry
 
 -- what comes of a block, and of what is read behind its bytes
-abbrev pub onto : Block'.Block → (ℕ → List Entry) → List Entry
-onto Block.End later = []
-onto Block.Malformed later = malformed ∷ []
-onto (Block.Of b a n size) later = whole b a n ∷ later size
+abbrev pub onto : Result (Option Block) Malformed → (ℕ → List Entry) → List Entry
+onto (Ok None) later = []
+onto (Err m) later = malformed ∷ []
+onto (Ok (Some b)) later = whole b.budget b.answer b.steps ∷ later b.size
 
 -- the first argument bounds how many there are
 unfoldable pub entries_in : ℕ → List ℕ → List Entry

@@ -3,22 +3,22 @@
 
 ghost use Rattle.std.specs.Prelude.{◌≡◌};
 ghost use Rattle.record.specs.Append as Append;
-ghost use Rattle.replay.specs.Replay.{Promise, pair as pair_of, none, alike as alikeOf};
+ghost use Rattle.replay.specs.Replay.{Promise, none};
 
-use record::{Block, Recorded, append, read_block};
+use record::{Malformed, Recorded, append, read_block};
 use rules::environment::Env;
 use run::run::run;
 
 // What a call answered: its number and its steps.
 #[repr(C)]
-#[derive(Clone, Copy)]
+#[derive(Clone, Copy, PartialEq, Eq)]
 pub struct Pair {
     pub answer: u32,
     pub steps: u32,
 }
 
 // 0, and all blocks agree, so many; 33 and the block that differs, counted from 1, with what it says and what came now; or 34 and the
-// block that is malformed. The environment is as the last run left it.
+// block that is malformed. The environment is as the last run left it. The numbers stay numbers: C reads them.
 #[repr(C)]
 #[derive(Clone, Copy)]
 pub struct Replayed {
@@ -33,63 +33,52 @@ pub struct Replayed {
 fn told(number: u8, block: usize, env: Env) -> Replayed
     ensures { result ≡ record { number = number; block = block; recorded = none; came = none; env = env } }
 {
+    let none = Pair {
+        answer: 0,
+        steps: 0,
+    };
     Replayed {
         number,
         block,
-        recorded: Pair {
-            answer: 0,
-            steps: 0,
-        },
-        came: Pair {
-            answer: 0,
-            steps: 0,
-        },
+        recorded: none,
+        came: none,
         env,
     }
 }
 
-fn alike(recorded: Pair, came: Pair) -> bool
-    ensures { result ≡ alikeOf recorded came }
-{
-    if came.answer == recorded.answer {
-        return came.steps == recorded.steps;
-    }
-    false
-}
-
 // Any list, any screen, any environment, any bytes as a record.
-pub fn replay(list: &[u16], screen: &mut [u8], env: Env, lines: &[u8]) -> Replayed
+pub fn replay(list: &[u16], screen: &mut [u8], mut env: Env, lines: &[u8]) -> Replayed
     ensures { Promise list.now lines.now env screen.old result screen.new }
 {
-    let mut e = env;
-    let mut at: usize = 0;
-    let mut k: usize = 0;
+    let mut rest = lines;
+    let mut k = 0; // counted by hand, as the count is what is told, and the text alone says how many there are
     loop {
-        let block = read_block(&lines[at..]);
-        match block {
-            Block::End => return told(0, k, e),
-            Block::Malformed => return told(34, k + 1, e),
-            Block::Of(budget, answer, steps, size) => {
-                let r = run(list, screen, e, budget);
-                let recorded = Pair { answer, steps };
-                let came = Pair {
-                    answer: r.number as u32,
-                    steps: r.steps,
-                };
-                e = r.env;
-                k += 1;
-                if !alike(recorded, came) {
-                    return Replayed {
-                        number: 33,
-                        block: k,
-                        recorded,
-                        came,
-                        env: e,
-                    };
-                }
-                at += size;
-            }
+        let block = match read_block(rest) {
+            Ok(None) => return told(0, k, env),
+            Err(Malformed) => return told(34, k + 1, env),
+            Ok(Some(block)) => block,
+        };
+        let recorded = Pair {
+            answer: block.answer,
+            steps: block.steps,
+        };
+        let r = run(list, screen, env, block.budget);
+        let came = Pair {
+            answer: u32::from(r.number),
+            steps: r.steps,
+        };
+        env = r.env;
+        k += 1;
+        if came != recorded {
+            return Replayed {
+                number: 33,
+                block: k,
+                recorded,
+                came,
+                env,
+            };
         }
+        rest = &rest[block.size..];
     }
 }
 

@@ -1,34 +1,37 @@
 -- `record::line::read_line` meets its contract.
-use Rattle.std.proofs.Common.{◌≡◌, ℕ, ◌+◌, ◌-◌, length, take, refl, sym, ap, ◌∙◌, arith, length-drop}
-use lib.Seq.{length-take-le}
-use Rattle.text.specs.Number.{unpadded_of}
-use Rattle.text.proofs.Parting.{tested}
-use Rattle.record.specs.Read.{numbered}
-use Rattle.record.proofs.Lines.{rest, feed, too_short, other_name, no-feed, by_number}
+use Rattle.std.proofs.Common.{sym, ◌∙◌, rules}
+use borrow.Author.Tests.{tests}
+use Rattle.std.proofs.lemmas.Iterator.{YieldsList-from_slice}
+use Rattle.std.proofs.lemmas.Iterator.Search.{position_from_yields_List}
+use Rattle.text.proofs.Parting.{same-pointwise}
+use Rattle.record.proofs.Lines.{rest, is_feed, endless, other_name, no-feed, by-item}
 use Rattle.record.proofs.line.read_line.Goals as goal
 
-pub returns-then-text-from : goal.returns-then-text-from
-returns-then-text-from c = too_short _ _ c.if-text-from.true
+pub returns-in_err-rest : goal.returns-in_err-rest
+returns-in_err-rest c = c.from_residual.ensures ∙ other_name _ _ (same-pointwise _ _ ∙ c.in_err-rest.ensures.cases)
 
-pub slice_bounds-same-end : goal.slice_bounds-same-end
-slice_bounds-same-end c = sym (length-take-le _ _ c.if-text-from.false)
+pub returns-in_err-end : goal.returns-in_err-end
+returns-in_err-end c =
+    let led = c.in_ok-rest.ensures.cases in
+    c.from_residual-in_err-end.ensures
+    ∙ no-feed _ _ (same-pointwise _ _ ∙ led.0)
+    (endless (rest c.args.label.now c.args.text.now)
+    (sym c.in_err-end.was
+    ∙ position_from_yields_List is_feed _ _ _ c.position.ensures.ran (YieldsList-from_slice _ (c.iter.ensures.rest ∙ led.1)) (λ x b q k. search (rules, tests))))
 
-pub returns-then-not-same : goal.returns-then-not-same
-returns-then-not-same c = other_name _ _ (sym (tested c.same.ensures refl) ∙ c.if-not-same.true)
-
-pub returns-then-text-end : goal.returns-then-text-end
-returns-then-text-end c =
-    no-feed _ _ (sym (tested c.same.ensures refl) ∙ c.if-not-same.false)
-    (omega (arith, c.find-end.ensures, length-drop (length c.args.label.now) c.args.text.now, c.if-text-from.false, c.if-text-end.true))
+pub returns-in_err-number : goal.returns-in_err-number
+returns-in_err-number c =
+    let led = c.in_ok-rest.ensures.cases in
+    c.from_residual-in_err-number.ensures
+    ∙ by-item _ _ led.0 led.1
+    (sym c.in_ok-end.was
+    ∙ position_from_yields_List is_feed _ _ _ c.position.ensures.ran (YieldsList-from_slice c.in_ok-rest.rest.now c.iter.ensures.rest) (λ x b q k. search (rules, tests)))
+    c.unpadded.ensures c.in_err-number.ensures.value
 
 pub returns : goal.returns
 returns c =
-    let label = c.args.label.now in
-    let text = c.args.text.now in
-    let wide : c.find-end.result - length label ≡ feed label text = omega (arith, c.find-end.ensures) in
-    let size : c.find-end.result + 1 ≡ length label + feed label text + 1 = omega (arith, c.find-end.ensures) in
-    let read = c.unpadded.ensures ∙ ap (λ (k : ℕ). unpadded_of (take k (rest label text))) wide in
-    c.numbered.ensures
-    ∙ ap (numbered c.unpadded.result) size
-    ∙ by_number _ _ (sym (tested c.same.ensures refl) ∙ c.if-not-same.false)
-    (omega (arith, c.find-end.ensures, length-drop (length label) text, c.if-text-from.false, c.if-text-end.false)) _ read
+    let led = c.in_ok-rest.ensures.cases in
+    by-item _ _ led.0 led.1
+    (sym c.in_ok-end.was
+    ∙ position_from_yields_List is_feed _ _ _ c.position.ensures.ran (YieldsList-from_slice c.in_ok-rest.rest.now c.iter.ensures.rest) (λ x b q k. search (rules, tests)))
+    c.unpadded.ensures c.in_ok-number.ensures.value
