@@ -13,7 +13,7 @@ ghost use Rattle.mender.specs.Replaced.{Replaced};
 ghost use Rattle.mender.specs.Mended.{Promise};
 
 use crate::report::{Change, put_change};
-use crate::walk::{Phase, pass};
+use crate::walk::pass;
 use numbers::place::WordIndex;
 
 // 0 and how many words were changed; 32 and how many would be, where the report has no room for them; 13 and 0.
@@ -28,17 +28,14 @@ pub struct Mended {
 fn count(list: &[u16]) -> usize
     ensures { result ≡ length (changes list.now (mended list.now)) }
 {
-    let mut phase = Phase::Inside(0);
+    let mut left = Some(0);
     let mut n: usize = 0;
-    let mut i: usize = 0;
-    while i < list.len() {
-        let word = list[i];
-        let passed = pass(phase, word, list.len() - i);
-        if passed.word != word {
+    for (i, word) in list.iter().enumerate() {
+        let passed = pass(left, *word, list.len() - i);
+        left = passed.left;
+        if passed.word != *word {
             n += 1;
         }
-        phase = passed.phase;
-        i += 1;
     }
     n
 }
@@ -74,14 +71,12 @@ fn write(list: &mut [u16], report: &mut [u32])
     ensures { (list.new ≡ mended list.old)
         × (report.new ≡ sets report.old 0 (numbers (changes list.old (mended list.old)))) }
 {
-    let mut phase = Phase::Inside(0);
+    let mut left = Some(0);
     let mut k: usize = 0;
-    let mut i: usize = 0;
-    while i < list.len() {
-        let passed = pass(phase, list[i], list.len() - i);
+    for i in 0..list.len() {
+        let passed = pass(left, list[i], list.len() - i);
         k = replace(list, report, WordIndex(i as u32), passed.word, k);
-        phase = passed.phase;
-        i += 1;
+        left = passed.left;
     }
 }
 

@@ -13,12 +13,19 @@ pub struct Change {
     pub is: u16,
 }
 
+impl From<Change> for [u32; 3] {
+    ghost from_gives = { λ change numbers. numbers ≡ three change };
+
+    fn from(change: Change) -> [u32; 3] {
+        [change.index.0, u32::from(change.was), u32::from(change.is)]
+    }
+}
+
 // The three numbers of a change, from `k` on.
 pub fn put_change(report: &mut [u32], k: usize, change: Change)
     requires { k + 3 ≤ length report.old }
     ensures { report.new ≡ sets report.old k (three change) }
 {
-    report[k] = change.index.0;
-    report[k + 1] = change.was as u32;
-    report[k + 2] = change.is as u32;
+    let numbers = <[u32; 3]>::from(change);
+    report[k..k + 3].copy_from_slice(&numbers);
 }
