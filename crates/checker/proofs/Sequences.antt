@@ -20,7 +20,7 @@ use Rattle.checker.specs.declared.reading.Behind.{Behind}
 use Rattle.checker.specs.Reading.{Reading, Block, closed, longer, joined, opcode, block_at, sequence_at}
 use Rattle.checker.specs.Sums.{cap, capped, capped_block}
 use Rattle.checker.proofs.Caps.{below, kept, none_more, some_more, joined-kept, FewInside, few-inside}
-use Rattle.checker.proofs.Places.{Onward, block-onward, run_out, goes_on, plain-words}
+use Rattle.checker.proofs.Places.{Onward, block-onward, run_out, goes_on}
 
 -- the sequence from `from` is read up to pc, in so many steps
 pub record Read (w : List ℕ) (room : ℕ) (from pc : WordIndex) (steps : ℕ) : Type 0 where
@@ -75,9 +75,6 @@ module _ {w : List ℕ} {room : ℕ} {from pc : WordIndex} {steps : ℕ} where
           within = c;
           small = below (steps + 1);
         }
-
-    pub words-plain : 1 ≤ n
-    words-plain = plain-words (at w pc.0) n (sym m.is)
 
   nothing-more : {l : Layout} → Met w room from pc steps l → cap (steps + 0) ≡ steps
   nothing-more m = let z : steps + 0 ≡ steps = omega arith in ap cap z ∙ kept steps m.read.small

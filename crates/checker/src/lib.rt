@@ -1,4 +1,4 @@
-// Document 02, T-09, a profile that surely finishes: a list is read without being played, and the steps to its EODL are answered.
+// Document 02, T-09, a profile that surely finishes: a list is read without being played, and the steps to its EODL are stated.
 #![tactic(auto)]
 
 mod sums; // steps, kept within 32 bits
@@ -11,7 +11,7 @@ use crate::reading::{Closer, sequence};
 use numbers::place::WordIndex;
 use player::{Verdict, carrying_0};
 
-// What is answered of a list: 0 and the steps to its EODL; or the number that it is refused with, 0 steps and, with 20 to 30, the index of
+// What is stated of a list: 0 and the steps to its EODL; or the number that it is refused with, 0 steps and, with 20 to 30, the index of
 // the word at fault. All other numbers carry 0.
 #[repr(C)]
 #[derive(Clone, Copy)]
