@@ -1,5 +1,5 @@
 -- Writing list and report: with what is still to be stored in them, they are what they will be. Nothing is said of what lies before.
-use Prim.Native.Nat.{ℕ, suc, ◌+◌, ◌<◌, ◌≤◌}
+use Prim.Native.Nat.{ℕ, suc, ◌+◌, ◌-◌, ◌<◌, ◌≤◌}
 use mathlib.Core.Path.{◌≡◌, refl, sym, ap, ◌∙◌, subst}
 use mathlib.Core.List.{List, [], ◌∷◌, ◌++◌, append-nil}
 use native.Mathlib.Numerals.{add-one}
@@ -9,38 +9,35 @@ use lib.Seq.{drop-set-lt, sets, sets-eq, length-sets, set-get_or}
 use Rattle.std.specs.Prelude.{Option, Some}
 use Rattle.mender.specs.declared.walk.Passed.{Passed}
 use Rattle.mender.specs.declared.report.Change.{Change}
-use Rattle.mender.specs.Walk.{mended_from, mended}
+use Rattle.mender.specs.Walk.{passing, mended_from, mended}
 use Rattle.mender.specs.Report.{change_of, changes_from, changes, three, numbers}
 use Rattle.mender.specs.Replaced.{Replaced}
 use Rattle.mender.proofs.Walking.{same-long, passed_at, mended_at, one_on}
 use Rattle.mender.proofs.Reporting.{change, same_word, other_word, changes_at, changed-on, none_left, numbers-append}
 
 -- ---- one word
-module _ (w r : List ℕ) (i y k : ℕ) where
-  abbrev was : ℕ
-  was = get_or w i 0
-
-  pub same-put : was ≡ y → Replaced w r i y k k w r
+module _ (x : ℕ) (r : List ℕ) (i y k : ℕ) where
+  pub same-put : x ≡ y → Replaced x r i y k k x r
   unfolding numbers
   same-put h =
       let none = same_word i h in
       record {
-        list = sym (set-get_or w i 0) ∙ ap (set w i) h;
+        word = h;
         report = sym (ap (λ (cs : List Change). sets r k (numbers cs)) none);
         next = omega (arith, ap (λ (cs : List Change). length (numbers cs)) none);
       }
 
-  module _ (differs : was ≡ y → ⊥) where
-    pub room-for-three : k + length (numbers (change_of i was y)) ≤ length r → k + 3 ≤ length r
+  module _ (differs : x ≡ y → ⊥) where
+    pub room-for-three : k + length (numbers (change_of i x y)) ≤ length r → k + 3 ≤ length r
     unfolding numbers
     room-for-three h = omega (arith, ap (λ (cs : List Change). length (numbers cs)) (other_word i differs), h)
 
-    pub other-put : {r' : List ℕ} → r' ≡ sets r k (three (change i was y)) → Replaced w r i y k (k + 3) (set w i y) r'
+    pub other-put : {r' : List ℕ} → r' ≡ sets r k (three (change i x y)) → Replaced x r i y k (k + 3) y r'
     unfolding numbers
     other-put h =
         let one = other_word i differs in
         record {
-          list = refl;
+          word = refl;
           report = h ∙ sym (ap (λ (cs : List Change). sets r k (numbers cs)) one);
           next = omega (arith, ap (λ (cs : List Change). length (numbers cs)) one);
         }
@@ -113,22 +110,25 @@ module _ {w₀ r₀ w r : List ℕ} {p : Option ℕ} {k i : ℕ} (c : Writing w�
           room = rw (length-sets r k here, same_rest) (omega (arith, lengths, c.room));
         }
 
-    put : {n : ℕ} {w' r' : List ℕ} → Replaced w r i t.word k n w' r' → Writing w₀ r₀ w' r' t.left n (i + 1)
-    put {n} {w'} {r'} f =
-        subst (λ (l : List ℕ). Writing w₀ r₀ l r' t.left n (i + 1)) (sym f.list)
+    put : {n x : ℕ} {r' : List ℕ} → Replaced (get_or w i 0) r i t.word k n x r' → Writing w₀ r₀ (set w i x) r' t.left n (i + 1)
+    put {n} {x} {r'} f =
+        subst (λ (y : ℕ). Writing w₀ r₀ (set w i y) r' t.left n (i + 1)) (sym f.word)
         (subst (λ (l : List ℕ). Writing w₀ r₀ (set w i t.word) l t.left n (i + 1)) (sym f.report)
         (subst (λ (j : ℕ). Writing w₀ r₀ (set w i t.word) (sets r k here) t.left j (i + 1)) (sym f.next) written))
 
     -- the same of what the walk answered
-    module _ {u : Passed} (is : u ≡ t) where
+    module _ {u : Passed} (answered : u ≡ passing p (get_or w i 0) (length w₀ - i)) where
+      is : u ≡ t
+      is = answered ∙ ap (λ (n : ℕ). passing p (get_or w i 0) (n - i)) (sym c.as_long)
+
       pub room-for-it : k + length (numbers (change_of i (get_or w i 0) u.word)) ≤ length r
       room-for-it =
           let fits : k + length here ≤ length r = omega (arith, lengths, c.room) in
           subst (λ (v : Passed). k + length (numbers (change_of i (get_or w i 0) v.word)) ≤ length r) (sym is) fits
 
-      pub one_written : {n : ℕ} {w' r' : List ℕ} → Replaced w r i u.word k n w' r' → Writing w₀ r₀ w' r' u.left n (i + 1)
-      one_written {n} {w'} {r'} =
-          subst (λ (v : Passed). Replaced w r i v.word k n w' r' → Writing w₀ r₀ w' r' v.left n (i + 1)) (sym is) (put)
+      pub one_written : {n x : ℕ} {r' : List ℕ} → Replaced (get_or w i 0) r i u.word k n x r' → Writing w₀ r₀ (set w i x) r' u.left n (i + 1)
+      one_written {n} {x} {r'} =
+          subst (λ (v : Passed). Replaced (get_or w i 0) r i v.word k n x r' → Writing w₀ r₀ (set w i x) r' v.left n (i + 1)) (sym is) (put)
 
   -- past the end
   module _ (h : length w ≤ i) where

@@ -5,7 +5,7 @@
 mod walk; // what becomes of each word
 mod report; // a change, as three numbers
 
-ghost use Rattle.std.specs.Prelude.{◌≡◌, ◌+◌, ◌≤◌, ◌<◌, length, get_or};
+ghost use Rattle.std.specs.Prelude.{◌≡◌, ◌+◌, ◌≤◌, length};
 ghost use Rattle.std.proofs.lemmas.List.Edits.{sets};
 ghost use Rattle.mender.specs.Walk.{mended};
 ghost use Rattle.mender.specs.Report.{change_of, changes, numbers};
@@ -40,27 +40,17 @@ fn count(list: &[u16]) -> usize
     n
 }
 
-// A word is put in its place and, where it differs from the one there, reported from `k` on. Answers where the report goes on.
-fn replace(list: &mut [u16], report: &mut [u32], at: WordIndex, word: u16, k: usize) -> usize
-    requires at_in_bounds { at.0 < length list.old }
-    requires word_in_bounds { k + length (numbers (change_of at.0 (get_or list.old at.0 0) word)) ≤ length report.old }
-    ensures { Replaced list.old report.old at.0 word k result list.new report.new }
+// A word becomes another and, where it differs from that, is reported from `k` on. Answers where the report goes on.
+fn replace(word: &mut u16, report: &mut [u32], index: WordIndex, is: u16, k: usize) -> usize
+    requires { k + length (numbers (change_of index.0 word.old is)) ≤ length report.old }
+    ensures { Replaced word.old report.old index.0 is k result word.new report.new }
 {
-    let i = at.0 as usize;
-    let was = list[i];
-    if was == word {
+    let was = *word;
+    if was == is {
         return k;
     }
-    put_change(
-        report,
-        k,
-        Change {
-            index: at,
-            was,
-            is: word,
-        },
-    );
-    list[i] = word;
+    put_change(report, k, Change { index, was, is });
+    *word = is;
     k + 3
 }
 
@@ -71,12 +61,13 @@ fn write(list: &mut [u16], report: &mut [u32])
     ensures { (list.new ≡ mended list.old)
         × (report.new ≡ sets report.old 0 (numbers (changes list.old (mended list.old)))) }
 {
+    let words = list.len();
     let mut left = Some(0);
     let mut k: usize = 0;
-    for i in 0..list.len() {
-        let passed = pass(left, list[i], list.len() - i);
-        k = replace(list, report, WordIndex(i as u32), passed.word, k);
+    for (i, word) in list.iter_mut().enumerate() {
+        let passed = pass(left, *word, words - i);
         left = passed.left;
+        k = replace(word, report, WordIndex(i as u32), passed.word, k);
     }
 }
 

@@ -6,8 +6,8 @@ use Rattle.mender.proofs.write.Goals as goal
 pub loop-i-init : goal.loop-i-init
 loop-i-init c = none_written _ _ c.requires.list_in_bounds
 
-pub replace-k-requires-clause-word_in_bounds : goal.replace-k-requires-clause-word_in_bounds
-replace-k-requires-clause-word_in_bounds c = room-for-it c.loop-i.invariant (omega arith) c.pass-passed.ensures
+pub replace-k-requires : goal.replace-k-requires
+replace-k-requires c = room-for-it c.loop-i.invariant (omega arith) c.pass-passed.ensures
 
 pub loop-i-preserved : goal.loop-i-preserved
 loop-i-preserved c = one_written c.loop-i.invariant (omega arith) c.pass-passed.ensures c.replace-k.ensures
