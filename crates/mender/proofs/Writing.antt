@@ -5,7 +5,7 @@ use mathlib.Core.List.{List, [], ◌∷◌, ◌++◌, append-nil}
 use native.Mathlib.Numerals.{add-one}
 use native.Mathlib.Omega.{arith}
 use lib.ListN.{length, get_or, drop, set, length-append, length-set, drop_of_length-le}
-use lib.Seq.{drop-set-lt, sets, sets-eq, length-sets, set-get_or}
+use lib.Seq.{drop-set-lt, sets, sets-eq, length-sets}
 use Rattle.std.specs.Prelude.{Option, Some}
 use Rattle.mender.specs.declared.walk.Passed.{Passed}
 use Rattle.mender.specs.declared.report.Change.{Change}
@@ -32,9 +32,9 @@ module _ (x : ℕ) (r : List ℕ) (i y k : ℕ) where
     unfolding numbers
     room-for-three h = omega (arith, ap (λ (cs : List Change). length (numbers cs)) (other_word i differs), h)
 
-    pub other-put : {r' : List ℕ} → r' ≡ sets r k (three (change i x y)) → Replaced x r i y k (k + 3) y r'
+    pub other-put : {n : ℕ} {r' : List ℕ} → n ≡ k + 3 → r' ≡ sets r k (three (change i x y)) → Replaced x r i y k n y r'
     unfolding numbers
-    other-put h =
+    other-put e h =
         let one = other_word i differs in
         record {
           word = refl;

@@ -12,7 +12,7 @@ ghost use Rattle.mender.specs.Report.{change_of, changes, numbers};
 ghost use Rattle.mender.specs.Replaced.{Replaced};
 ghost use Rattle.mender.specs.Mended.{Promise};
 
-use crate::report::{Change, put_change};
+use crate::report::{Change, Written};
 use crate::walk::pass;
 use numbers::place::WordIndex;
 
@@ -40,18 +40,18 @@ fn count(list: &[u16]) -> usize
     n
 }
 
-// A word becomes another and, where it differs from that, is reported from `k` on. Answers where the report goes on.
-fn replace(word: &mut u16, report: &mut [u32], index: WordIndex, is: u16, k: usize) -> usize
-    requires { k + length (numbers (change_of index.0 word.old is)) ≤ length report.old }
-    ensures { Replaced word.old report.old index.0 is k result word.new report.new }
+// A word becomes another and, where it differs from that, is reported.
+fn replace(word: &mut u16, written: &mut Written<'_>, index: WordIndex, is: u16)
+    requires { written.old.to + length (numbers (change_of index.0 word.old is)) ≤ length written.old.report.now }
+    ensures same_reference { written.new.report.ghost_name ≡ written.old.report.ghost_name }
+    ensures replaced { Replaced word.old written.old.report.now index.0 is written.old.to written.new.to word.new written.new.report.now }
 {
     let was = *word;
     if was == is {
-        return k;
+        return;
     }
-    put_change(report, k, Change { index, was, is });
+    written.put(Change { index, was, is });
     *word = is;
-    k + 3
 }
 
 // Every word, and the report from its start.
@@ -63,11 +63,11 @@ fn write(list: &mut [u16], report: &mut [u32])
 {
     let words = list.len();
     let mut left = Some(0);
-    let mut k: usize = 0;
+    let mut written = Written { report, to: 0 };
     for (i, word) in list.iter_mut().enumerate() {
         let passed = pass(left, *word, words - i);
         left = passed.left;
-        k = replace(word, report, WordIndex(i as u32), passed.word, k);
+        replace(word, &mut written, WordIndex(i as u32), passed.word);
     }
 }
 

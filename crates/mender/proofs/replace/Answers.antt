@@ -1,12 +1,20 @@
 -- `replace`: a word that stays is not reported, and another one is.
+use mathlib.Core.Path.{refl}
 use Rattle.mender.proofs.Writing.{same-put, room-for-three, other-put}
 use Rattle.mender.proofs.replace.Goals as goal
 
 pub returns-then-was-is : goal.returns-then-was-is
-returns-then-was-is c = let a = c.args in same-put a.word.now a.report.now a.index.0 a.is a.k c.if-was-is.true
+returns-then-was-is c =
+    let a = c.args in
+    record { same_reference = refl; replaced = same-put a.word.now a.written.now.report.now a.index.0 a.is a.written.now.to c.if-was-is.true }
 
-pub put_change-requires : goal.put_change-requires
-put_change-requires c = let a = c.args in room-for-three a.word.now a.report.now a.index.0 a.is a.k c.if-was-is.false c.requires
+pub put-requires : goal.put-requires
+put-requires c =
+    let a = c.args in
+    room-for-three a.word.now a.written.now.report.now a.index.0 a.is a.written.now.to c.if-was-is.false c.requires
 
 pub returns : goal.returns
-returns c = other-put _ _ _ _ _ c.if-was-is.false c.put_change.ensures
+returns c = record {
+  same_reference = c.put.ensures.same_reference;
+  replaced = other-put _ _ _ _ _ c.if-was-is.false c.put.ensures.to c.put.ensures.report;
+}
