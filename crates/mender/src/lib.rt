@@ -10,7 +10,7 @@ ghost use Rattle.std.proofs.lemmas.List.Edits.{sets};
 ghost use Rattle.mender.specs.Walk.{mended};
 ghost use Rattle.mender.specs.Report.{change_of, changes, numbers};
 ghost use Rattle.mender.specs.Replaced.{Replaced};
-ghost use Rattle.mender.specs.Mended.{Promise};
+ghost use Rattle.mender.specs.Mended.{answered, Promise};
 
 use crate::report::{Change, Written};
 use crate::walk::pass;
@@ -24,7 +24,32 @@ pub struct Mended {
     pub changes: u32,
 }
 
-// How many words will differ.
+// Why a list is left as it was: it is too long; or the report has no room for so many changes.
+#[derive(Clone, Copy)]
+enum Unmended {
+    TooLong,
+    NoRoom(u32),
+}
+
+impl From<Result<u32, Unmended>> for Mended {
+    ghost from_gives = { λ changes m. m ≡ answered changes };
+
+    fn from(changes: Result<u32, Unmended>) -> Mended {
+        match changes {
+            Ok(changes) => Mended { number: 0, changes },
+            Err(Unmended::TooLong) => Mended {
+                number: 13,
+                changes: 0,
+            },
+            Err(Unmended::NoRoom(changes)) => Mended {
+                number: 32,
+                changes,
+            },
+        }
+    }
+}
+
+// How many words will differ. A loop of its own: this one only reads the list that `write` changes as it goes.
 fn count(list: &[u16]) -> usize
     ensures { result ≡ length (changes list.now (mended list.now)) }
 {
@@ -71,28 +96,26 @@ fn write(list: &mut [u16], report: &mut [u32])
     }
 }
 
+// How many words were changed, or why none was.
+fn try_mend(list: &mut [u16], report: &mut [u32]) -> Result<u32, Unmended>
+    ensures { Promise list.old report.old (answered result) list.new report.new }
+{
+    if 65536 < list.len() {
+        return Err(Unmended::TooLong);
+    }
+    let n = count(&*list);
+    if report.len() < 3 * n {
+        return Err(Unmended::NoRoom(n as u32));
+    }
+    write(list, report);
+    Ok(n as u32)
+}
+
 // Any list, any report: three numbers a change, its index, the old word and the new one.
 pub fn mend(list: &mut [u16], report: &mut [u32]) -> Mended
     ensures { Promise list.old report.old result list.new report.new }
 {
-    if 65536 < list.len() {
-        return Mended {
-            number: 13,
-            changes: 0,
-        };
-    }
-    let n = count(&*list);
-    if report.len() < 3 * n {
-        return Mended {
-            number: 32,
-            changes: n as u32,
-        };
-    }
-    write(list, report);
-    Mended {
-        number: 0,
-        changes: n as u32,
-    }
+    Mended::from(try_mend(list, report))
 }
 
 // The mender, for C.

@@ -1,7 +1,7 @@
--- `mend`: each way out is one law.
+-- `try_mend`: each way out is one law.
 use native.Mathlib.Omega.{arith}
 use Rattle.mender.proofs.Mending.{few-changes, three-a-change, too_long, no_room, all-mended}
-use Rattle.mender.proofs.mend.Goals as goal
+use Rattle.mender.proofs.try_mend.Goals as goal
 
 pub returns-then-list-gt65536 : goal.returns-then-list-gt65536
 returns-then-list-gt65536 c = too_long _ _ c.if-list-gt65536.true
