@@ -1,6 +1,6 @@
 -- The walk one word on: what the functions of the walk answer, and what the two loops over it go by.
-use Prim.Native.Nat.{ℕ, suc, ◌+◌, ◌-◌, ◌<◌, ◌≤◌}
-use mathlib.Core.Path.{◌≡◌, refl, sym, ap, ◌∙◌, subst}
+use Prim.Native.Nat.{ℕ, suc, ◌+◌, ◌-◌, ◌<◌}
+use mathlib.Core.Path.{◌≡◌, refl, sym, ap, ◌∙◌}
 use mathlib.Core.Bool.{Bool, true, false, cond, true≢false}
 use mathlib.Core.Logic.{◌⊎◌, inl, inr}
 use mathlib.Core.List.{List, [], ◌∷◌}
@@ -15,7 +15,7 @@ use Rattle.rules.specs.Step.{unknown}
 use Rattle.forms.specs.declared.layout.Layout.{Layout}
 use Rattle.forms.specs.declared.layout.Layout.TheVariants.{Strange, Plain, Flow, Ends, Opens, Closes}
 use Rattle.forms.specs.Layout.{layout_at, words, size_in}
-use Rattle.forms.proofs.Layouts.{none, sized, some_words, strange}
+use Rattle.forms.proofs.Layouts.{none, sized, strange}
 use Rattle.mender.specs.declared.walk.Passed.{Passed}
 use Rattle.mender.specs.Walk.{passed, begun, due, passing, mended_from}
 
@@ -63,10 +63,6 @@ module _ (x : ℕ) {l : Layout} (laid : l ≡ layout_at x) where
   pub one-word : (l ≡ Ends) ⊎ (l ≡ Closes) → Begins x 1
   one-word (inl h) = begins refl h
   one-word (inr h) = begins refl h
-
--- it has a word
-pub some : {x n : ℕ} → Begins x n → 1 ≤ n
-some {x} b = subst (λ (n : ℕ). 1 ≤ n) (sized x ∙ b.size) (some_words x)
 
 -- ---- by what is left of an opcode
 module _ (p : Option ℕ) (x have : ℕ) where

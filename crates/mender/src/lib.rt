@@ -104,11 +104,12 @@ fn try_mend(list: &mut [u16], report: &mut [u32]) -> Result<u32, Unmended>
         return Err(Unmended::TooLong);
     }
     let n = count(&*list);
+    let changes = n as u32;
     if report.len() < 3 * n {
-        return Err(Unmended::NoRoom(n as u32));
+        return Err(Unmended::NoRoom(changes));
     }
     write(list, report);
-    Ok(n as u32)
+    Ok(changes)
 }
 
 // Any list, any report: three numbers a change, its index, the old word and the new one.

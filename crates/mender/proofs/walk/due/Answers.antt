@@ -7,7 +7,7 @@ use Rattle.rules.specs.Meaning.{meaning}
 use Rattle.rules.specs.declared.opcode.Form.{Form}
 use Rattle.rules.specs.Table.{form_of}
 use Rattle.forms.proofs.Layouts.{by_form}
-use Rattle.mender.proofs.Walking.{an-opcode, no-opcode, so-many, two-words, one-word, some}
+use Rattle.mender.proofs.Walking.{an-opcode, no-opcode, so-many, two-words, one-word}
 use Rattle.mender.proofs.walk.due.Goals as goal
 
 -- the layout l of the form f of the word x
@@ -16,9 +16,6 @@ laid x of form = of ∙ by_form x form
 
 pub returns-in-Strange : goal.returns-in-Strange
 returns-in-Strange c = no-opcode _ (laid _ c.layout_of.ensures c.form_of.ensures) _ c.in-Strange.is
-
-pub begin-requires-in-Plain : goal.begin-requires-in-Plain
-begin-requires-in-Plain c = some (so-many _ (laid _ c.layout_of.ensures c.form_of.ensures) c.in-Plain.is)
 
 pub returns-in-Plain : goal.returns-in-Plain
 returns-in-Plain c = c.begin-in-Plain.ensures ∙ an-opcode _ _ (so-many _ (laid _ c.layout_of.ensures c.form_of.ensures) c.in-Plain.is)
