@@ -7,6 +7,7 @@ use mathlib.Core.List.{List, []}
 use native.Mathlib.Nat.{zero-add}
 use lib.ListN.{length}
 use lib.Dec.{leb, eqb}
+use Rattle.std.specs.Prelude.{Ok, Err}
 use Rattle.numbers.specs.declared.place.WordIndex.{WordIndex}
 use Rattle.numbers.proofs.Answers.{by-test}
 use Rattle.raster.specs.declared.frame.Bounds.{Bounds}
@@ -20,13 +21,13 @@ use Rattle.forms.specs.declared.layout.Layout.TheVariants.{Closes}
 use Rattle.forms.specs.Layout.{layout_at}
 use Rattle.forms.proofs.Layouts.{closes-is}
 use Rattle.checker.specs.declared.Checked.{Checked}
-use Rattle.checker.specs.declared.reading.Reading.{Reading}
-use Rattle.checker.specs.declared.reading.Reading.TheVariants.{Fault, Eodl, Erpt}
-use Rattle.checker.specs.Reading.{sequence_at}
-use Rattle.checker.specs.Checked.{refusal, accepted, told, checked}
+use Rattle.checker.specs.declared.reading.Closer.{Closer}
+use Rattle.checker.specs.declared.reading.Closer.TheVariants.{Eodl, Erpt}
+use Rattle.checker.specs.Reading.{Reading, sequence_at}
+use Rattle.checker.specs.Checked.{refusal, accepted, closes_list, told, checked}
 use Rattle.checker.proofs.Reach.{Reach, reach-map, Refuses, Halted, halted}
 use Rattle.checker.proofs.Steps.{Stands, erpt-29}
-use Rattle.checker.proofs.Places.{After, reading-after}
+use Rattle.checker.proofs.Places.{layout_by, After, reading-after}
 use Rattle.checker.proofs.Following.{Runs, reading-runs}
 use Rattle.checker.proofs.Finishes.{begins}
 
@@ -48,18 +49,27 @@ module _ (w : List ℕ) where
   )
 
   told-comes : (x : Reading) → After w start x → Runs w 8 start x → of_run (told x).number ≡ true → Comes (told x)
-  told-comes (Fault v) after go h =
+  told-comes (Err v) after go h =
       let m = go ((λ z. true≢false (sym h ∙ ap of_run z)), (λ z. true≢false (sym h ∙ ap of_run z))) in
       (m.0, λ b. m.1 (fresh b) (begins b))
-  told-comes (Erpt i n) after go h = (
-    n,
-    λ b. reach-map w (Stands i []) (Refuses w (fault 29 i)) n (fresh b) (stray i after.1 after.2) (go (fresh b) (begins b)),
-  )
-  told-comes (Eodl i n) after go h =
-      by-test (leb (n + 1) 1000000) (accepted (n + 1)) (refusal (verdict 31)) (λ (c : Checked). of_run c.number ≡ true → Comes c)
-      (λ few p. absurd (true≢false (sym p)))
-      (λ many p. absurd (true≢false (sym p)))
-      h
+  told-comes (Ok c) after go h = closes c.by after.2 h
+    where
+      i : WordIndex
+      i = c.place
+
+      n : ℕ
+      n = c.steps
+
+      closes : (k : Closer) → layout_at (at w i.0) ≡ layout_by k → of_run (closes_list k i n).number ≡ true → Comes (closes_list k i n)
+      closes Erpt is h = (
+        n,
+        λ b. reach-map w (Stands i []) (Refuses w (fault 29 i)) n (fresh b) (stray i after.1 is) (go (fresh b) (begins b)),
+      )
+      closes Eodl is h =
+          by-test (leb (n + 1) 1000000) (accepted (n + 1)) (refusal (verdict 31)) (λ (c : Checked). of_run c.number ≡ true → Comes c)
+          (λ few p. absurd (true≢false (sym p)))
+          (λ many p. absurd (true≢false (sym p)))
+          h
 
   comes : of_run (checked w).number ≡ true → Comes (checked w)
   unfolding checked

@@ -2,29 +2,29 @@
 use Prim.Native.Nat.{ℕ, zero, suc, ◌+◌, ◌-◌, ◌*◌, ◌<◌, ◌≤◌}
 use mathlib.Core.Path.{◌≡◌, refl, sym, ap, ap₂, ◌∙◌, subst}
 use mathlib.Core.Bool.{Bool, true, false, ◌&&◌}
+use mathlib.Core.Logic.{◌⊎◌, inl, inr}
 use mathlib.Core.List.{List}
 use native.Mathlib.Omega.{arith}
 use native.Mathlib.Nat.{mul-le-mul}
 use lib.ListN.{length}
 use lib.Dec.{leb}
 use borrow.Author.Tests.{lt-ltb, le-ltb, le-leb, lt-leb}
+use Rattle.std.specs.Prelude.{Ok, Err}
 use Rattle.numbers.specs.declared.place.WordIndex.{WordIndex}
 use Rattle.numbers.specs.Place.{past}
 use Rattle.player.specs.Player.{fault}
 use Rattle.rules.specs.Opcodes.{countable}
-use Rattle.checker.specs.declared.reading.Reading.{Reading}
-use Rattle.checker.specs.declared.reading.Reading.TheVariants.{Fault, Eodl, Erpt}
+use Rattle.checker.specs.declared.reading.Closer.{Closer}
 use Rattle.checker.specs.declared.reading.Closed.{Closed}
-use Rattle.checker.specs.declared.reading.Closed.TheVariants.{Broken, Behind}
-use Rattle.checker.specs.Reading.{count, repeated, opening, block_at, sequence_at}
+use Rattle.checker.specs.Reading.{Reading, Block, behind, count, closes_block, repeated, opening, block_at, sequence_at}
 use Rattle.checker.specs.Sums.{capped, capped_block}
 use Rattle.checker.proofs.Caps.{repeated-kept, Few, few}
 use Rattle.checker.proofs.Places.{After, reading-after}
 
 module _ (w : List ℕ) (pc : WordIndex) where
   -- the block, if its RPT is sound
-  inside : ℕ → Closed
-  inside zero = Broken (fault 28 pc)
+  inside : ℕ → Block
+  inside zero = Err (fault 28 pc)
   inside (suc room) = repeated (count w pc) (sequence_at w room (past pc 2))
 
   opens_as : (room : ℕ) → block_at w room pc ≡ opening w pc (inside room)
@@ -32,14 +32,14 @@ module _ (w : List ℕ) (pc : WordIndex) where
   opens_as zero = refl
   opens_as (suc room) = refl
 
-  pub cut : (room : ℕ) → length w < pc.0 + 2 → Broken (fault 22 pc) ≡ capped_block (block_at w room pc)
+  pub cut : (room : ℕ) → length w < pc.0 + 2 → Err (fault 22 pc) ≡ capped_block (block_at w room pc)
   cut room h =
-      let x : opening w pc (inside room) ≡ Broken (fault 22 pc) = rw (lt-ltb (length w) (pc.0 + 2) h) in
+      let x : opening w pc (inside room) ≡ Err (fault 22 pc) = rw (lt-ltb (length w) (pc.0 + 2) h) in
       sym (ap capped_block (opens_as room ∙ x))
 
-  bad-count : (room : ℕ) → pc.0 + 2 ≤ length w → countable (count w pc) ≡ false → Broken (fault 24 pc) ≡ capped_block (block_at w room pc)
+  bad-count : (room : ℕ) → pc.0 + 2 ≤ length w → countable (count w pc) ≡ false → Err (fault 24 pc) ≡ capped_block (block_at w room pc)
   bad-count room whole h =
-      let x : opening w pc (inside room) ≡ Broken (fault 24 pc) = rw (le-ltb (length w) (pc.0 + 2) whole, h) in
+      let x : opening w pc (inside room) ≡ Err (fault 24 pc) = rw (le-ltb (length w) (pc.0 + 2) whole, h) in
       sym (ap capped_block (opens_as room ∙ x))
 
 -- an RPT stands at pc with its count,
@@ -54,11 +54,11 @@ pub record Counted (w : List ℕ) (pc : WordIndex) (c : ℕ) : Type 0 where
   pub few : c ≤ 1000
 
 module _ {w : List ℕ} {pc : WordIndex} {c : ℕ} where
-  pub no-pass : (room : ℕ) → Counts w pc c → c ≡ 0 → Broken (fault 24 pc) ≡ capped_block (block_at w room pc)
-  no-pass room m h = bad-count w pc room m.whole (ap countable (sym m.is ∙ h))
-
-  pub many-passes : (room : ℕ) → Counts w pc c → 1000 < c → Broken (fault 24 pc) ≡ capped_block (block_at w room pc)
-  many-passes room m h = bad-count w pc room m.whole (go (leb 1 (count w pc)) (leb (count w pc) 1000) (lt-leb (count w pc) 1000 (omega (arith, m.is, h))))
+  -- no pass, or more than 1,000
+  pub bad-passes : (room : ℕ) → Counts w pc c → (c ≡ 0) ⊎ ((c ≡ 0 → ⊥) × (1000 < c)) → Err (fault 24 pc) ≡ capped_block (block_at w room pc)
+  bad-passes room m (inl h) = bad-count w pc room m.whole (ap countable (sym m.is ∙ h))
+  bad-passes room m (inr h) =
+      bad-count w pc room m.whole (go (leb 1 (count w pc)) (leb (count w pc) 1000) (lt-leb (count w pc) 1000 (omega (arith, m.is, h.1))))
     where
       go : (a b : Bool) → b ≡ false → (a && b) ≡ false
       go true b p = p
@@ -72,7 +72,7 @@ module _ {w : List ℕ} {pc : WordIndex} {c : ℕ} where
         let good : countable (count w pc) ≡ true = rw (le-leb 1 (count w pc) some, le-leb (count w pc) 1000 few) in
         opens_as w pc room ∙ rw (le-ltb (length w) (pc.0 + 2) m.counts.whole, good)
 
-    pub full : (room : ℕ) → room ≡ 0 → Broken (fault 28 pc) ≡ capped_block (block_at w room pc)
+    pub full : (room : ℕ) → room ≡ 0 → Err (fault 28 pc) ≡ capped_block (block_at w room pc)
     unfolding inside
     full room h = sym (ap capped_block (is-inside room ∙ ap (inside w pc) h))
 
@@ -91,25 +91,30 @@ module _ {w : List ℕ} {pc : WordIndex} {c : ℕ} where
         ap (λ (y : Reading). capped_block (repeated c y)) (is ∙ ap (λ (j : WordIndex). capped (sequence_at w (room - 1) j)) there)
         ∙ (sym (repeated-kept c m.some (sequence_at w (room - 1) (past pc 2))) ∙ sym (ap capped_block (nested room some-room)))
 
--- behind an ERPT at i
-pub behind : (i : WordIndex) {j : WordIndex} {n k : ℕ} → j.0 ≡ i.0 + 1 → n ≡ k → Behind j n ≡ Behind (past i 1) k
-behind i p q = λ t. Behind (record { 0 = p t }) (q t)
+    -- and by what closed it
+    pub closes_by : {room : ℕ} {i : WordIndex} {s : Closed} {k : Closer} → (room ≡ 0 → ⊥) → i.0 ≡ pc.0 + 2 → Ok s ≡ capped (sequence_at w (room - 1) i)
+        → s.by ≡ k → capped_block (closes_block c k s.place s.steps) ≡ capped_block (block_at w room pc)
+    closes_by {room} {i} {s} some-room there is h =
+        ap (λ (k : Closer). capped_block (closes_block c k s.place s.steps)) (sym h) ∙ closes some-room there is
 
--- an ERPT that was read: its steps are few, and it stands in the list
+-- behind an ERPT at i
+pub after_erpt : (i : WordIndex) {j : WordIndex} {n k : ℕ} → j.0 ≡ i.0 + 1 → n ≡ k → behind j n ≡ behind (past i 1) k
+after_erpt i p q = λ t. behind (record { 0 = p t }) (q t)
+
+-- what closes a sequence that was read: its steps are few, and it stands in the list
 pub record Closing (w : List ℕ) (i k : ℕ) : Type 0 where
   pub small : k ≤ 1000001
   pub inside : i < length w
 
 after_kept : (w : List ℕ) (pc : WordIndex) (x : Reading) → After w pc x → After w pc (capped x)
-after_kept w pc (Fault v) h = h
-after_kept w pc (Eodl i n) h = h
-after_kept w pc (Erpt i n) h = h
+after_kept w pc (Err v) h = h
+after_kept w pc (Ok c) h = h
 
-pub closing : {w : List ℕ} {j : WordIndex} {k : ℕ} (room : ℕ) (pc : WordIndex) → Erpt j k ≡ capped (sequence_at w room pc) → Closing w j.0 k
-closing {w} {j} {k} room pc is =
+pub closing : {w : List ℕ} {c : Closed} (room : ℕ) (pc : WordIndex) → Ok c ≡ capped (sequence_at w room pc) → Closing w c.place.0 c.steps
+closing {w} {c} room pc is =
     let x = sequence_at w room pc in
-    let f : Few (Erpt j k) = subst Few (sym is) (few x) in
-    let a : After w pc (Erpt j k) = subst (After w pc) (sym is) (after_kept w pc x (reading-after w room pc)) in
+    let f : Few (Ok c) = subst Few (sym is) (few x) in
+    let a : After w pc (Ok c) = subst (After w pc) (sym is) (after_kept w pc x (reading-after w room pc)) in
     record { small = f; inside = a.1 }
 
 -- at most 1,000 passes of them

@@ -6,21 +6,20 @@ use native.Mathlib.Omega.{arith}
 use native.Mathlib.Nat.{mul-le-mul_right, one-mul}
 use lib.Dec.{leb}
 use borrow.Author.Tests.{leb-true, leb-false, le-leb, lt-leb}
+use Rattle.std.specs.Prelude.{min, Ok, Err}
 use Rattle.numbers.specs.declared.place.WordIndex.{WordIndex}
-use Rattle.checker.specs.declared.reading.Reading.{Reading}
-use Rattle.checker.specs.declared.reading.Reading.TheVariants.{Fault, Eodl, Erpt}
-use Rattle.checker.specs.declared.reading.Closed.{Closed}
-use Rattle.checker.specs.declared.reading.Closed.TheVariants.{Broken, Behind}
-use Rattle.checker.specs.Reading.{longer, joined, repeated}
-use Rattle.checker.specs.Checked.{told}
+use Rattle.checker.specs.declared.reading.Closer.{Closer}
+use Rattle.checker.specs.declared.reading.Closer.TheVariants.{Eodl, Erpt}
+use Rattle.checker.specs.Reading.{Reading, Block, closed, behind, longer, joined, closes_block, repeated}
+use Rattle.checker.specs.Checked.{told, closes_list}
 use Rattle.checker.specs.Sums.{cap, capped, capped_block}
 
 -- ---- numbers
-pub low : (n : ℕ) → n ≤ 1000000 → cap n ≡ n
+low : (n : ℕ) → n ≤ 1000000 → cap n ≡ n
 unfolding cap
 low n h = rw (le-leb n 1000000 h)
 
-pub high : (n : ℕ) → 1000000 < n → cap n ≡ 1000001
+high : (n : ℕ) → 1000000 < n → cap n ≡ 1000001
 unfolding cap
 high n h = rw (lt-leb n 1000000 h)
 
@@ -31,6 +30,10 @@ sides P n l h = go (leb n 1000000) refl
     go : (b : Bool) → leb n 1000000 ≡ b → P n
     go true e = l (leb-true n 1000000 e)
     go false e = h (leb-false n 1000000 e)
+
+-- the lesser of the two
+pub least : (n : ℕ) → min n 1000001 ≡ cap n
+least n = sides (λ k. min k 1000001 ≡ cap k) n (λ l. omega (arith, low n l)) (λ h. omega (arith, high n h))
 
 pub below : (n : ℕ) → cap n ≤ 1000001
 below n = sides (λ k. cap k ≤ 1000001) n (λ l. omega (arith, low n l)) (λ h. omega (arith, high n h))
@@ -66,52 +69,58 @@ product-kept c n some =
 
 -- ---- readings
 pub none_more : (x : Reading) → capped x ≡ capped (longer 0 x)
-none_more (Fault v) = refl
-none_more (Eodl i n) = let z : n ≡ 0 + n = omega arith in ap (λ (k : ℕ). Eodl i (cap k)) z
-none_more (Erpt i n) = let z : n ≡ 0 + n = omega arith in ap (λ (k : ℕ). Erpt i (cap k)) z
+none_more (Err v) = refl
+none_more (Ok c) = let z : c.steps ≡ 0 + c.steps = omega arith in ap (λ (k : ℕ). Ok (closed c.by c.place (cap k))) z
 
 regroup : (a b n : ℕ) → cap (a + (b + n)) ≡ cap (cap (a + b) + n)
 regroup a b n = let z : a + (b + n) ≡ (a + b) + n = omega arith in ap cap z ∙ kept-sum (a + b) n
 
 pub some_more : (a b : ℕ) (x : Reading) → capped (longer a (longer b x)) ≡ capped (longer (cap (a + b)) x)
-some_more a b (Fault v) = refl
-some_more a b (Eodl i n) = ap (λ (k : ℕ). Eodl i k) (regroup a b n)
-some_more a b (Erpt i n) = ap (λ (k : ℕ). Erpt i k) (regroup a b n)
+some_more a b (Err v) = refl
+some_more a b (Ok c) = ap (λ (k : ℕ). Ok (closed c.by c.place k)) (regroup a b c.steps)
 
 -- ---- what is made of a block, of a sequence inside one, and of the whole list
-pub joined-kept : (a : ℕ) (on : WordIndex → Reading) (c : Closed) → capped (longer a (joined c on)) ≡ capped (longer a (joined (capped_block c) on))
-joined-kept a on (Broken v) = refl
-joined-kept a on (Behind i k) =
-    some_more a k (on i) ∙ (ap (λ (n : ℕ). capped (longer n (on i))) (sum_kept a k) ∙ sym (some_more a (cap k) (on i)))
+pub joined-kept : (a : ℕ) (on : WordIndex → Reading) (c : Block) → capped (longer a (joined c on)) ≡ capped (longer a (joined (capped_block c) on))
+joined-kept a on (Err v) = refl
+joined-kept a on (Ok b) =
+    some_more a b.steps (on b.next)
+    ∙ (ap (λ (n : ℕ). capped (longer n (on b.next))) (sum_kept a b.steps) ∙ sym (some_more a (cap b.steps) (on b.next)))
 
 pub repeated-kept : (c : ℕ) → 1 ≤ c → (x : Reading) → capped_block (repeated c x) ≡ capped_block (repeated c (capped x))
-repeated-kept c some (Fault v) = refl
-repeated-kept c some (Eodl i n) = refl
-repeated-kept c some (Erpt i n) = ap (λ (k : ℕ). Behind (record { 0 = i.0 + 1 }) k) (product-kept c n some)
+repeated-kept c some (Err v) = refl
+repeated-kept c some (Ok s) = go s.by
+  where
+    go : (k : Closer) → capped_block (closes_block c k s.place s.steps) ≡ capped_block (closes_block c k s.place (cap s.steps))
+    go Eodl = refl
+    go Erpt = ap (λ (k : ℕ). Ok (behind (record { 0 = s.place.0 + 1 }) k)) (product-kept c s.steps some)
 
 pub told-kept : (x : Reading) → told x ≡ told (capped x)
-told-kept (Fault v) = refl
-told-kept (Erpt i n) = refl
-told-kept (Eodl i n) =
-    sides (λ k. told (Eodl i k) ≡ told (Eodl i (cap k))) n
-    (λ l. ap (λ (k : ℕ). told (Eodl i k)) (sym (low n l)))
-    (λ h. rw (high n h, lt-leb (n + 1) 1000000 (omega (arith, h))))
+told-kept (Err v) = refl
+told-kept (Ok c) = go c.by
+  where
+    n : ℕ
+    n = c.steps
+
+    go : (k : Closer) → closes_list k c.place n ≡ closes_list k c.place (cap n)
+    go Erpt = refl
+    go Eodl =
+        sides (λ k. closes_list Eodl c.place k ≡ closes_list Eodl c.place (cap k)) n
+        (λ l. ap (λ (k : ℕ). closes_list Eodl c.place k) (sym (low n l)))
+        (λ h. rw (high n h, lt-leb (n + 1) 1000000 (omega (arith, h))))
 
 -- ---- so steps that were kept are few
 abbrev pub Few : Reading → Type 0
-Few (Fault v) = Unit {0}
-Few (Eodl i n) = n ≤ 1000001
-Few (Erpt i n) = n ≤ 1000001
+Few (Err v) = Unit {0}
+Few (Ok c) = c.steps ≤ 1000001
 
-abbrev pub FewInside : Closed → Type 0
-FewInside (Broken v) = Unit {0}
-FewInside (Behind i k) = k ≤ 1000001
+abbrev pub FewInside : Block → Type 0
+FewInside (Err v) = Unit {0}
+FewInside (Ok b) = b.steps ≤ 1000001
 
 pub few : (x : Reading) → Few (capped x)
-few (Fault v) = tt
-few (Eodl i n) = below n
-few (Erpt i n) = below n
+few (Err v) = tt
+few (Ok c) = below c.steps
 
-pub few-inside : (c : Closed) → FewInside (capped_block c)
-few-inside (Broken v) = tt
-few-inside (Behind i k) = below k
+pub few-inside : (c : Block) → FewInside (capped_block c)
+few-inside (Err v) = tt
+few-inside (Ok b) = below b.steps

@@ -9,6 +9,7 @@ use native.Mathlib.Nat.{zero-add}
 use lib.ListN.{length}
 use lib.Dec.{leb, lit≤}
 use borrow.Author.Tests.{leb-true}
+use Rattle.std.specs.Prelude.{Ok, Err}
 use Rattle.numbers.specs.declared.place.WordIndex.{WordIndex}
 use Rattle.numbers.proofs.Answers.{by-test}
 use Rattle.raster.specs.declared.frame.Bounds.{Bounds}
@@ -27,13 +28,13 @@ use Rattle.forms.specs.declared.layout.Layout.TheVariants.{Ends}
 use Rattle.forms.specs.Layout.{layout_at}
 use Rattle.forms.proofs.Layouts.{ends_is}
 use Rattle.checker.specs.declared.Checked.{Checked}
-use Rattle.checker.specs.declared.reading.Reading.{Reading}
-use Rattle.checker.specs.declared.reading.Reading.TheVariants.{Fault, Eodl, Erpt}
-use Rattle.checker.specs.Reading.{sequence_at}
-use Rattle.checker.specs.Checked.{refusal, accepted, told, checked, Promise}
+use Rattle.checker.specs.declared.reading.Closer.{Closer}
+use Rattle.checker.specs.declared.reading.Closer.TheVariants.{Eodl, Erpt}
+use Rattle.checker.specs.Reading.{Reading, sequence_at}
+use Rattle.checker.specs.Checked.{refusal, accepted, closes_list, told, checked, Promise}
 use Rattle.checker.proofs.Reach.{Once, Reach, then, Finished, finished}
 use Rattle.checker.proofs.Steps.{Stands, eodl-once}
-use Rattle.checker.proofs.Places.{After, reading-after}
+use Rattle.checker.proofs.Places.{layout_by, After, reading-after}
 use Rattle.checker.proofs.Following.{Ready, Runs, reading-runs}
 
 pub begins : (b : Bounds) → Ready 8 start (fresh b)
@@ -52,13 +53,22 @@ module _ (w : List ℕ) where
   )
 
   told-runs : (b : Bounds) (x : Reading) → After w start x → Runs w 8 start x → (told x).number ≡ 0 → Reach w (told x).steps Over (fresh b)
-  told-runs b (Fault v) after go h = absurd (omega (arith, after.0, h))
-  told-runs b (Erpt i n) after go h = absurd (omega (arith, h))
-  told-runs b (Eodl i n) after go h =
-      by-test (leb (n + 1) 1000000) (accepted (n + 1)) (refusal (verdict 31)) (λ (c : Checked). c.number ≡ 0 → Reach w c.steps Over (fresh b))
-      (λ few p. then w (Stands i []) Over n 1 (fresh b) (go (fresh b) (begins b)) (λ y s. ending i after.1 after.2 [] y s))
-      (λ many p. absurd (omega (arith, p)))
-      h
+  told-runs b (Err v) after go h = absurd (omega (arith, after.0, h))
+  told-runs b (Ok c) after go h = closes c.by after.2 h
+    where
+      i : WordIndex
+      i = c.place
+
+      n : ℕ
+      n = c.steps
+
+      closes : (k : Closer) → layout_at (at w i.0) ≡ layout_by k → (closes_list k i n).number ≡ 0 → Reach w (closes_list k i n).steps Over (fresh b)
+      closes Erpt is h = absurd (omega (arith, h))
+      closes Eodl is h =
+          by-test (leb (n + 1) 1000000) (accepted (n + 1)) (refusal (verdict 31)) (λ (c : Checked). c.number ≡ 0 → Reach w c.steps Over (fresh b))
+          (λ few p. then w (Stands i []) Over n 1 (fresh b) (go (fresh b) (begins b)) (λ y s. ending i after.1 is [] y s))
+          (λ many p. absurd (omega (arith, p)))
+          h
 
   accepted-runs : (b : Bounds) → (checked w).number ≡ 0 → Reach w (checked w).steps Over (fresh b)
   unfolding checked
@@ -91,12 +101,18 @@ pub data Stated (c : Checked) : Type 0 where
   too_many : c.number ≡ 31 → c.place ≡ start → c.steps ≡ 0 → Stated c
 
 told-so : (w : List ℕ) (x : Reading) → After w start x → Stated (told x)
-told-so w (Fault v) after = faulty after.0 after.1 refl
-told-so w (Erpt i n) after = faulty (lit≤ tt) (lit≤ tt) refl
-told-so w (Eodl i n) after =
-    by-test (leb (n + 1) 1000000) (accepted (n + 1)) (refusal (verdict 31)) Stated
-    (λ few. sound refl refl (omega arith) (leb-true (n + 1) 1000000 few))
-    (λ many. too_many refl refl refl)
+told-so w (Err v) after = faulty after.0 after.1 refl
+told-so w (Ok c) after = closes c.by
+  where
+    n : ℕ
+    n = c.steps
+
+    closes : (k : Closer) → Stated (closes_list k c.place n)
+    closes Erpt = faulty (lit≤ tt) (lit≤ tt) refl
+    closes Eodl =
+        by-test (leb (n + 1) 1000000) (accepted (n + 1)) (refusal (verdict 31)) Stated
+        (λ few. sound refl refl (omega arith) (leb-true (n + 1) 1000000 few))
+        (λ many. too_many refl refl refl)
 
 pub stated : (w : List ℕ) → Stated (checked w)
 unfolding checked

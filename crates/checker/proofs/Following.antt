@@ -9,6 +9,7 @@ use native.Mathlib.Nat.{suc-mul, add_comm}
 use lib.ListN.{length, length-append}
 use lib.Dec.{ltb, leb}
 use borrow.Author.Tests.{leb-true, leb-false, le-leb, lt-leb}
+use Rattle.std.specs.Prelude.{Ok, Err}
 use Rattle.numbers.specs.declared.place.WordIndex.{WordIndex}
 use Rattle.numbers.specs.Place.{past}
 use Rattle.numbers.proofs.Answers.{by-test}
@@ -25,14 +26,12 @@ use Rattle.forms.specs.declared.layout.Layout.{Layout}
 use Rattle.forms.specs.declared.layout.Layout.TheVariants.{Strange, Plain, Flow, Ends, Opens, Closes}
 use Rattle.forms.specs.Layout.{layout_at}
 use Rattle.forms.proofs.Layouts.{opens-is, closes-is}
-use Rattle.checker.specs.declared.reading.Reading.{Reading}
-use Rattle.checker.specs.declared.reading.Reading.TheVariants.{Fault, Eodl, Erpt}
-use Rattle.checker.specs.declared.reading.Closed.{Closed}
-use Rattle.checker.specs.declared.reading.Closed.TheVariants.{Broken, Behind}
-use Rattle.checker.specs.Reading.{longer, joined, opcode, sequence, count, repeated, opening, block_at, sequence_at}
+use Rattle.checker.specs.declared.reading.Closer.{Closer}
+use Rattle.checker.specs.declared.reading.Closer.TheVariants.{Eodl, Erpt}
+use Rattle.checker.specs.Reading.{Reading, Block, longer, joined, opcode, sequence, count, closes_block, repeated, opening, block_at, sequence_at}
 use Rattle.checker.proofs.Reach.{Once, Reach, then, reach-map, Refuses}
 use Rattle.checker.proofs.Steps.{Stands, plain-once, rpt-once, erpt-last, erpt-again, run-out-20, plain-22, rpt-22, rpt-24, rpt-28}
-use Rattle.checker.proofs.Places.{After, Onward, reading-after, block-onward, plain-words}
+use Rattle.checker.proofs.Places.{layout_by, After, Onward, reading-after, block-onward, plain-words}
 
 -- at pc, with room for so many repeats more
 pub record Ready (room : ℕ) (pc : WordIndex) (e : Env) : Type 0 where
@@ -52,13 +51,12 @@ abbrev pub Meets : List ℕ → ℕ → WordIndex → Verdict → Type 0
 Meets w room pc v = Own v → (k : ℕ) × ((e : Env) → Ready room pc e → Reach w k (Refuses w v) e)
 
 abbrev pub Runs : List ℕ → ℕ → WordIndex → Reading → Type 0
-Runs w room pc (Fault v) = Meets w room pc v
-Runs w room pc (Eodl i n) = Gets w room pc n i
-Runs w room pc (Erpt i n) = Gets w room pc n i
+Runs w room pc (Err v) = Meets w room pc v
+Runs w room pc (Ok c) = Gets w room pc c.steps c.place
 
-abbrev RunsBlock : List ℕ → ℕ → WordIndex → Closed → Type 0
-RunsBlock w room pc (Broken v) = Meets w room pc v
-RunsBlock w room pc (Behind i k) = Gets w room pc k i
+abbrev RunsBlock : List ℕ → ℕ → WordIndex → Block → Type 0
+RunsBlock w room pc (Err v) = Meets w room pc v
+RunsBlock w room pc (Ok b) = Gets w room pc b.steps b.next
 
 stood : {rs rs' : List Repeat} {i : WordIndex} (x : Env) → rs ≡ rs' → Stands i rs x → Stands i rs' x
 stood x same h = record { counter = h.counter; repeats = h.repeats ∙ same; state = h.state }
@@ -88,15 +86,14 @@ module _ (w : List ℕ) where
       (λ y s. reach-map w (Stands i y.flow.repeats) (Stands i e.flow.repeats) n y (λ z t. stood z s.repeats t) (on y (ready room pc next e y r s)))
 
   longer-runs : (room : ℕ) (pc next : WordIndex) (k : ℕ) (x : Reading) → Gets w room pc k next → Runs w room next x → Runs w room pc (longer k x)
-  longer-runs room pc next k (Fault v) go on =
+  longer-runs room pc next k (Err v) go on =
       λ own.
       let m = on own in
       (k + m.0, λ e r. then w (Stands next e.flow.repeats) (Refuses w v) k m.0 e (go e r) (λ y s. m.1 y (ready room pc next e y r s)))
-  longer-runs room pc next k (Eodl i n) go on = then-gets room pc next k n i go on
-  longer-runs room pc next k (Erpt i n) go on = then-gets room pc next k n i go on
+  longer-runs room pc next k (Ok c) go on = then-gets room pc next k c.steps c.place go on
 
   -- ---- a sequence, where its blocks are followed
-  abbrev Blocks : ℕ → (WordIndex → Closed) → Type 0
+  abbrev Blocks : ℕ → (WordIndex → Block) → Type 0
   Blocks room inner = (pc : WordIndex) → pc.0 < length w → layout_at (at w pc.0) ≡ Opens → RunsBlock w room pc (inner pc)
 
   stays : (room : ℕ) (pc : WordIndex) → Gets w room pc 0 pc
@@ -104,10 +101,10 @@ module _ (w : List ℕ) where
 
   plain_runs : (room : ℕ) (on : WordIndex → Reading) (pc : WordIndex) → pc.0 < length w → ((next : WordIndex) → pc.0 < next.0 → Runs w room next (on next))
       → (n : ℕ) → layout_at (at w pc.0) ≡ Plain n
-      → Runs w room pc (cond (ltb (length w) (pc.0 + n)) (Fault (fault 22 pc)) (longer 1 (on (past pc n))))
+      → Runs w room pc (cond (ltb (length w) (pc.0 + n)) (Err (fault 22 pc)) (longer 1 (on (past pc n))))
   plain_runs room on pc inside later n is =
       let some = plain-words (at w pc.0) n is in
-      by-test (ltb (length w) (pc.0 + n)) (Fault (fault 22 pc)) (longer 1 (on (past pc n))) (Runs w room pc)
+      by-test (ltb (length w) (pc.0 + n)) (Err (fault 22 pc)) (longer 1 (on (past pc n))) (Runs w room pc)
       (λ cut. here room 22 pc (λ e r.
       subst (λ (i : WordIndex). i.0 < length w → layout_at (at w i.0) ≡ Plain n → ltb (length w) (i.0 + n) ≡ true → step w e ≡ refused (fault 22 i)) r.counter
       (λ p q t. plain-22 w e p n q t) inside is cut))
@@ -119,7 +116,7 @@ module _ (w : List ℕ) where
       ))
       (later (past pc n) (omega (arith, some))))
 
-  opcode-runs : (room : ℕ) (inner : WordIndex → Closed) → Blocks room inner → (on : WordIndex → Reading) (pc : WordIndex) → pc.0 < length w → Onward w pc (inner pc)
+  opcode-runs : (room : ℕ) (inner : WordIndex → Block) → Blocks room inner → (on : WordIndex → Reading) (pc : WordIndex) → pc.0 < length w → Onward w pc (inner pc)
       → ((next : WordIndex) → pc.0 < next.0 → Runs w room next (on next))
       → (l : Layout) → layout_at (at w pc.0) ≡ l → Runs w room pc (opcode w inner on pc l)
   opcode-runs room inner blocks on pc inside onward later Strange is = λ own. absurd (own.0 refl)
@@ -129,20 +126,20 @@ module _ (w : List ℕ) where
   opcode-runs room inner blocks on pc inside onward later Closes is = stays room pc
   opcode-runs room inner blocks on pc inside onward later Opens is = go (inner pc) (blocks pc inside is) onward
     where
-      go : (c : Closed) → RunsBlock w room pc c → Onward w pc c → Runs w room pc (joined c on)
-      go (Broken v) h o = h
-      go (Behind i k) h o = longer-runs room pc i k (on i) h (later i o.0)
+      go : (c : Block) → RunsBlock w room pc c → Onward w pc c → Runs w room pc (joined c on)
+      go (Err v) h o = h
+      go (Ok b) h o = longer-runs room pc b.next b.steps (on b.next) h (later b.next o.0)
 
   out : (room : ℕ) (pc : WordIndex) → length w ≤ pc.0 → Meets w room pc (fault 20 pc)
   out room pc h =
       here room 20 pc (λ e r. subst (λ (i : WordIndex). length w ≤ i.0 → step w e ≡ refused (fault 20 i)) r.counter (run-out-20 w e) h)
 
-  sequence-runs : (room : ℕ) (inner : WordIndex → Closed) → Blocks room inner → ((pc : WordIndex) → Onward w pc (inner pc)) → (more : ℕ) (pc : WordIndex)
+  sequence-runs : (room : ℕ) (inner : WordIndex → Block) → Blocks room inner → ((pc : WordIndex) → Onward w pc (inner pc)) → (more : ℕ) (pc : WordIndex)
       → length w ≤ more + pc.0 → Runs w room pc (sequence w inner more pc)
   unfolding sequence
   sequence-runs room inner blocks onward zero pc enough = out room pc (omega (arith, enough))
   sequence-runs room inner blocks onward (suc more) pc enough =
-      by-test (leb (length w) pc.0) (Fault (fault 20 pc)) (opcode w inner (λ next. sequence w inner more next) pc (layout_at (at w pc.0))) (Runs w room pc)
+      by-test (leb (length w) pc.0) (Err (fault 20 pc)) (opcode w inner (λ next. sequence w inner more next) pc (layout_at (at w pc.0))) (Runs w room pc)
       (λ past. out room pc (leb-true (length w) pc.0 past))
       (λ inn. opcode-runs room inner blocks (λ next. sequence w inner more next) pc (leb-false (length w) pc.0 inn) (onward pc)
       (λ next l. sequence-runs room inner blocks onward more next (omega (arith, l, enough))) (layout_at (at w pc.0)) refl)
@@ -191,14 +188,14 @@ module _ (w : List ℕ) where
     rpt : at w pc.0 ≡ 0x00B7
     rpt = opens-is (at w pc.0) opens
 
-    opening-runs : (room : ℕ) (c : Closed) → (ltb (length w) (pc.0 + 2) ≡ false → countable (count w pc) ≡ true → RunsBlock w room pc c)
+    opening-runs : (room : ℕ) (c : Block) → (ltb (length w) (pc.0 + 2) ≡ false → countable (count w pc) ≡ true → RunsBlock w room pc c)
         → RunsBlock w room pc (opening w pc c)
     opening-runs room c go =
-        by-test (ltb (length w) (pc.0 + 2)) (Broken (fault 22 pc)) (cond (countable (count w pc)) c (Broken (fault 24 pc))) (RunsBlock w room pc)
+        by-test (ltb (length w) (pc.0 + 2)) (Err (fault 22 pc)) (cond (countable (count w pc)) c (Err (fault 24 pc))) (RunsBlock w room pc)
         (λ cut. here room 22 pc (λ e r.
         subst (λ (i : WordIndex). i.0 < length w → at w i.0 ≡ 0x00B7 → ltb (length w) (i.0 + 2) ≡ true → step w e ≡ refused (fault 22 i)) r.counter
         (λ p q t. rpt-22 w e p q t) inside rpt cut))
-        (λ whole. by-test (countable (count w pc)) c (Broken (fault 24 pc)) (RunsBlock w room pc) (go whole)
+        (λ whole. by-test (countable (count w pc)) c (Err (fault 24 pc)) (RunsBlock w room pc) (go whole)
         (λ bad. here room 24 pc (λ e r.
         subst (λ (i : WordIndex). i.0 < length w → at w i.0 ≡ 0x00B7 → ltb (length w) (i.0 + 2) ≡ false → countable (count w i) ≡ false → step w e ≡ refused (fault 24 i)) r.counter
         (λ p q t u. rpt-24 w e p q t u) inside rpt whole bad)))
@@ -220,26 +217,35 @@ module _ (w : List ℕ) where
           )
 
       repeated-runs : (room : ℕ) (x : Reading) → After w (past pc 2) x → Runs w room (past pc 2) x → RunsBlock w (suc room) pc (repeated (count w pc) x)
-      repeated-runs room (Fault v) after body =
+      repeated-runs room (Err v) after body =
           λ own.
           let m = body own in (
             1 + m.0,
             λ e r. then w (Within e (past pc 2) (count w pc)) (Refuses w v) 1 m.0 e (enter room e r)
                 (λ y s. m.1 y (ready-within room (past pc 2) (count w pc) e.flow.repeats y r.open-yet s)),
           )
-      repeated-runs room (Eodl i n) after body = λ own. absurd (own.1 refl)
-      repeated-runs room (Erpt i n) after body = λ e r. go (count w pc) refl e r
+      repeated-runs room (Ok s) after body = closes s.by after.2
         where
-          go : (c : ℕ) → count w pc ≡ c → Gets w (suc room) pc (1 + count w pc * (n + 1)) (past i 1)
-          go zero h e r = absurd (omega (arith, h, leb-true 1 (count w pc) (one (leb 1 (count w pc)) _ good)))
-          go (suc j) h e r =
+          i : WordIndex
+          i = s.place
+
+          n : ℕ
+          n = s.steps
+
+          go : layout_at (at w i.0) ≡ Closes → (c : ℕ) → count w pc ≡ c → Gets w (suc room) pc (1 + count w pc * (n + 1)) (past i 1)
+          go erpt zero h e r = absurd (omega (arith, h, leb-true 1 (count w pc) (one (leb 1 (count w pc)) _ good)))
+          go erpt (suc j) h e r =
               then w (Within e (past pc 2) (count w pc)) (Stands (past i 1) e.flow.repeats) 1 (count w pc * (n + 1)) e (enter room e r)
               (λ y s. subst (λ (c : ℕ). Within e (past pc 2) c y → Reach w (c * (n + 1)) (Stands (past i 1) e.flow.repeats) y) (sym h)
-              (λ t. rounds (past pc 2) i n room e.flow.repeats after.1 (closes-is (at w i.0) after.2) r.open-yet body j y t) s)
+              (λ t. rounds (past pc 2) i n room e.flow.repeats after.1 (closes-is (at w i.0) erpt) r.open-yet body j y t) s)
+
+          closes : (k : Closer) → layout_at (at w i.0) ≡ layout_by k → RunsBlock w (suc room) pc (closes_block (count w pc) k i n)
+          closes Eodl is = λ own. absurd (own.1 refl)
+          closes Erpt is = go is (count w pc) refl
 
   block_runs : (room : ℕ) → Blocks room (λ i. block_at w room i)
   unfolding block_at
-  block_runs zero pc inside is = opening-runs pc inside is 0 (Broken (fault 28 pc)) (λ whole good. full pc inside is whole good)
+  block_runs zero pc inside is = opening-runs pc inside is 0 (Err (fault 28 pc)) (λ whole good. full pc inside is whole good)
   block_runs (suc room) pc inside is =
       let x = sequence w (λ i. block_at w room i) (length w) (past pc 2) in
       opening-runs pc inside is (suc room) (repeated (count w pc) x)

@@ -5,9 +5,9 @@ mod sums; // steps, kept within 32 bits
 mod reading; // sequences of opcodes and blocks
 
 ghost use Rattle.std.specs.Prelude.{◌≡◌};
-ghost use Rattle.checker.specs.Checked.{refusal as refusalOf, Promise};
+ghost use Rattle.checker.specs.Checked.{answered, checked, Promise};
 
-use crate::reading::{Reading, sequence};
+use crate::reading::{Closer, sequence};
 use numbers::place::WordIndex;
 use player::{Verdict, carrying_0};
 
@@ -21,14 +21,45 @@ pub struct Checked {
     pub steps: u32,
 }
 
-fn refusal(v: Verdict) -> Checked
-    ensures { result ≡ refusalOf v }
+impl From<Result<u32, Verdict>> for Checked {
+    ghost from_gives = { λ steps c. c ≡ answered steps };
+
+    fn from(steps: Result<u32, Verdict>) -> Checked {
+        match steps {
+            Ok(steps) => Checked {
+                number: 0,
+                place: WordIndex(0),
+                steps,
+            },
+            Err(v) => Checked {
+                number: v.number,
+                place: v.place,
+                steps: 0,
+            },
+        }
+    }
+}
+
+// The steps to the EODL and it, or why the list is refused.
+fn steps_of(list: &[u16]) -> Result<u32, Verdict>
+    ensures { answered result ≡ checked list.now }
 {
-    let place = v.place;
-    Checked {
-        number: v.number,
-        place,
-        steps: 0,
+    if list.len() > 65536 {
+        return Err(carrying_0(13));
+    }
+    let whole = sequence(list, WordIndex(0), 8)?;
+    match whole.by {
+        Closer::Erpt => Err(Verdict {
+            number: 29,
+            place: whole.place,
+        }),
+        Closer::Eodl => {
+            if whole.steps < 1000000 {
+                Ok(whole.steps + 1)
+            } else {
+                Err(carrying_0(31))
+            }
+        }
     }
 }
 
@@ -36,25 +67,7 @@ fn refusal(v: Verdict) -> Checked
 pub fn check(list: &[u16]) -> Checked
     ensures { Promise list.now result }
 {
-    if list.len() > 65536 {
-        return refusal(carrying_0(13));
-    }
-    let whole = sequence(list, WordIndex(0), 8);
-    match whole {
-        Reading::Fault(v) => refusal(v),
-        Reading::Erpt(place, _) => refusal(Verdict { number: 29, place }),
-        Reading::Eodl(_, steps) => {
-            if steps < 1000000 {
-                Checked {
-                    number: 0,
-                    place: WordIndex(0),
-                    steps: steps + 1,
-                }
-            } else {
-                refusal(carrying_0(31))
-            }
-        }
-    }
+    Checked::from(steps_of(list))
 }
 
 // The checker, for C.

@@ -6,5 +6,5 @@ ghost use Rattle.checker.specs.Sums.{cap as cap_of};
 pub fn cap(steps: u32) -> u32
     ensures { result ≡ cap_of steps }
 {
-    if steps > 1000000 { 1000001 } else { steps }
+    steps.min(1000001)
 }

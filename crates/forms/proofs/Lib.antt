@@ -1,2 +1,1 @@
-pub mod Variants
 pub mod Layouts

@@ -16,6 +16,7 @@ pub enum Layout {
     Closes,
 }
 
+// No `From` in its place: docs/RULES.md, T-09.1, has it by this name.
 pub fn layout_of(form: Form) -> Layout
     ensures { result ≡ layout_of (Meaning.meaning form) }
 {

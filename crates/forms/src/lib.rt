@@ -9,6 +9,7 @@ ghost use Rattle.rules.specs.Table.{form_of};
 use rules::opcode::{FlowForm, Form, PaintForm, PenForm, ValueForm};
 
 // One decision over the opcode word; everything else is unknown.
+// No `From`: the form is a type of `rules`, and an impl of it would have to stand there.
 #[tactic(auto, using(rules::proofs::TableLaws::at), unfolding(rules::specs::Table::form_of))]
 pub fn form_of(word: u16) -> Form
     ensures { result ≡ form_of word }

@@ -3,7 +3,7 @@ use Prim.Native.Nat.{ℕ}
 use mathlib.Core.Path.{◌≡◌}
 use mathlib.Core.List.{List}
 use lib.ListN.{length}
-use Rattle.mender.specs.declared.walk.Phase.TheVariants.{Inside}
+use Rattle.std.specs.Prelude.{Some}
 use Rattle.mender.specs.Walk.{mended}
 use Rattle.mender.specs.Walks.{Walks}
 use Rattle.mender.proofs.Walking.{same-long}
@@ -22,4 +22,4 @@ again w = unchanged (mended-walks w)
 
 pub same_length : (w : List ℕ) → length (mended w) ≡ length w
 unfolding mended
-same_length w = same-long (Inside 0) w
+same_length w = same-long (Some 0) w

@@ -6,32 +6,31 @@ use mathlib.Core.List.{List, [], ◌∷◌, ◌++◌}
 use native.Mathlib.Omega.{arith}
 use borrow.Author.Tests.{lt-ltb, le-ltb}
 use lib.ListN.{length, replicate, length-append}
+use Rattle.std.specs.Prelude.{Option, Some, None}
 use Rattle.rules.specs.Op.{Op}
 use Rattle.rules.specs.Meaning.{Unknown, Known, meaning}
 use Rattle.rules.specs.Table.{form_of}
 use Rattle.rules.specs.Operands.{Source, size_of}
-use Rattle.mender.specs.declared.walk.Phase.{Phase}
-use Rattle.mender.specs.declared.walk.Phase.TheVariants.{Inside, Cut}
 use Rattle.mender.specs.declared.walk.Passed.{Passed}
 use Rattle.mender.specs.Walk.{passed, passing, mended_from, mended}
 use Rattle.mender.proofs.Walking.{means, operand}
 
 -- one word on, by what becomes of it
-on : (p : Phase) (x : ℕ) (xs : List ℕ) {t : Passed} → t ≡ passing p x (length (x ∷ xs)) → mended_from p (x ∷ xs) ≡ t.word ∷ mended_from t.phase xs
+on : (p : Option ℕ) (x : ℕ) (xs : List ℕ) {t : Passed} → t ≡ passing p x (length (x ∷ xs)) → mended_from p (x ∷ xs) ≡ t.word ∷ mended_from t.left xs
 unfolding mended_from
-on p x xs is = sym (ap (λ (t : Passed). t.word ∷ mended_from t.phase xs) is)
+on p x xs is = sym (ap (λ (t : Passed). t.word ∷ mended_from t.left xs) is)
 
 -- so many operands stay
-kept : (ops rest : List ℕ) → mended_from (Inside (length ops)) (ops ++ rest) ≡ ops ++ mended rest
+kept : (ops rest : List ℕ) → mended_from (Some (length ops)) (ops ++ rest) ≡ ops ++ mended rest
 unfolding mended
 kept [] rest = refl
 kept (x ∷ ops) rest =
-    on (Inside (suc (length ops))) x (ops ++ rest) (operand (Inside (suc (length ops))) x (length (x ∷ ops ++ rest)) refl (λ e. omega arith))
-    ∙ (ap (λ (n : ℕ). x ∷ mended_from (Inside n) (ops ++ rest)) (omega arith)
+    on (Some (suc (length ops))) x (ops ++ rest) (operand (Some (suc (length ops))) x (length (x ∷ ops ++ rest)) refl (λ e. omega arith))
+    ∙ (ap (λ (n : ℕ). x ∷ mended_from (Some n) (ops ++ rest)) (omega arith)
     ∙ ap (λ (l : List ℕ). x ∷ l) (kept ops rest))
 
 -- the rest of a cut opcode becomes 0000
-emptied : (xs : List ℕ) → mended_from Cut xs ≡ replicate (length xs) 0
+emptied : (xs : List ℕ) → mended_from None xs ≡ replicate (length xs) 0
 unfolding mended_from passing
 emptied [] = refl
 emptied (x ∷ xs) = ap (λ (l : List ℕ). 0 ∷ l) (emptied xs)
@@ -39,15 +38,15 @@ emptied (x ∷ xs) = ap (λ (l : List ℕ). 0 ∷ l) (emptied xs)
 -- a word that is no opcode where one is due becomes 0000, and the walk goes on at the next word
 pub unknown-word : (x : ℕ) (xs : List ℕ) → meaning (form_of x) ≡ Unknown → mended (x ∷ xs) ≡ 0x0000 ∷ mended xs
 unfolding mended
-unknown-word x xs is = on (Inside 0) x xs (means x (length (x ∷ xs)) is)
+unknown-word x xs is = on (Some 0) x xs (means x (length (x ∷ xs)) is)
 
 module _ (x : ℕ) {op : Op} {s : Source} (is : meaning (form_of x) ≡ Known op s) where
   -- an opcode cut by the end has its first word made 0001 and the rest 0000
   pub cut-opcode : (xs : List ℕ) → length (x ∷ xs) < size_of s → mended (x ∷ xs) ≡ 0x0001 ∷ replicate (length xs) 0x0000
   unfolding mended
   cut-opcode xs short =
-      on (Inside 0) x xs {t = passed 0x0001 Cut}
-      (sym (ap (λ (b : Bool). cond b (passed 0x0001 Cut) (passed x (Inside (size_of s - 1)))) (lt-ltb (length (x ∷ xs)) (size_of s) short)) ∙ means x (length (x ∷ xs)) is)
+      on (Some 0) x xs {t = passed 0x0001 None}
+      (sym (ap (λ (b : Bool). cond b (passed 0x0001 None) (passed x (Some (size_of s - 1)))) (lt-ltb (length (x ∷ xs)) (size_of s) short)) ∙ means x (length (x ∷ xs)) is)
       ∙ ap (λ (l : List ℕ). 0x0001 ∷ l) (emptied xs)
 
   -- a whole opcode stays, and the walk goes on behind it
@@ -55,8 +54,8 @@ module _ (x : ℕ) {op : Op} {s : Source} (is : meaning (form_of x) ≡ Known op
   unfolding mended
   whole-opcode ops rest size =
       let there = length (x ∷ ops ++ rest) in
-      on (Inside 0) x (ops ++ rest) {t = passed x (Inside (length ops))}
-      (ap (λ (n : ℕ). passed x (Inside n)) (omega (arith, size))
-      ∙ (sym (ap (λ (b : Bool). cond b (passed 0x0001 Cut) (passed x (Inside (size_of s - 1)))) (le-ltb there (size_of s) (omega (arith, size, length-append ops rest))))
+      on (Some 0) x (ops ++ rest) {t = passed x (Some (length ops))}
+      (ap (λ (n : ℕ). passed x (Some n)) (omega (arith, size))
+      ∙ (sym (ap (λ (b : Bool). cond b (passed 0x0001 None) (passed x (Some (size_of s - 1)))) (le-ltb there (size_of s) (omega (arith, size, length-append ops rest))))
       ∙ means x there is))
       ∙ ap (λ (l : List ℕ). x ∷ l) (kept ops rest)

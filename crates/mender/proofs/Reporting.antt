@@ -8,7 +8,7 @@ use native.Mathlib.Omega.{arith}
 use borrow.Author.Tests.{eq-eqb, ne_eqb}
 use lib.Dec.{eqb}
 use lib.ListN.{length, get_or, drop, drop_of_length-le}
-use Rattle.mender.specs.declared.walk.Phase.{Phase}
+use Rattle.std.specs.Prelude.{Option}
 use Rattle.mender.specs.declared.report.Change.{Change}
 use Rattle.mender.specs.Walk.{mended_from}
 use Rattle.mender.specs.Report.{change_of, changes_from, three, numbers}
@@ -33,16 +33,16 @@ at_most_one i x y = by (eqb x y)
     by false = omega arith
 
 -- ---- the words from i on
-abbrev pub changes_at : List ℕ → ℕ → Phase → List Change
+abbrev pub changes_at : List ℕ → ℕ → Option ℕ → List Change
 changes_at w i p = changes_from i (drop i w) (mended_at w i p)
 
-module _ (w : List ℕ) (i : ℕ) (p : Phase) where
-  pub changed-on : i < length w → changes_at w i p ≡ change_of i (get_or w i 0) (passed_at w i p).word ++ changes_at w (i + 1) (passed_at w i p).phase
+module _ (w : List ℕ) (i : ℕ) (p : Option ℕ) where
+  pub changed-on : i < length w → changes_at w i p ≡ change_of i (get_or w i 0) (passed_at w i p).word ++ changes_at w (i + 1) (passed_at w i p).left
   unfolding changes_from
   changed-on h =
       ap (λ (l : List ℕ). changes_from i l (mended_at w i p)) (opened w i h)
       ∙ (ap (changes_from i (get_or w i 0 ∷ drop (i + 1) w)) (one_on w i h p)
-      ∙ ap (λ (j : ℕ). change_of i (get_or w i 0) (passed_at w i p).word ++ changes_from j (drop (i + 1) w) (mended_at w (i + 1) (passed_at w i p).phase)) (sym (add-one i)))
+      ∙ ap (λ (j : ℕ). change_of i (get_or w i 0) (passed_at w i p).word ++ changes_from j (drop (i + 1) w) (mended_at w (i + 1) (passed_at w i p).left)) (sym (add-one i)))
 
   pub none_left : length w ≤ i → changes_at w i p ≡ []
   unfolding changes_from

@@ -1,9 +1,17 @@
 -- Document 02, T-14: what a mending answers and what it leaves.
-use Rattle.std.specs.Prelude.{ℕ, ◌*◌, ◌≡◌, cond, List, ltb, length}
+use Rattle.std.specs.Prelude.{ℕ, ◌*◌, ◌≡◌, cond, List, ltb, length, Result, Ok, Err}
 use Rattle.std.proofs.lemmas.List.Edits.{sets}
 use Rattle.mender.specs.declared.Mended.{Mended}
+use Rattle.mender.specs.declared.Unmended.{Unmended}
+use Rattle.mender.specs.declared.Unmended.TheVariants.{TooLong, NoRoom}
 use Rattle.mender.specs.Walk.{mended}
 use Rattle.mender.specs.Report.{changes, numbers}
+
+-- how many words were changed, or why none was, as one struct
+abbrev pub answered : Result ℕ Unmended → Mended
+answered (Ok k) = record { number = 0; changes = k }
+answered (Err TooLong) = record { number = 13; changes = 0 }
+answered (Err (NoRoom k)) = record { number = 32; changes = k }
 
 -- the answer, and the list and the report as they are left
 pub record Left : Type 0 where

@@ -1,9 +1,9 @@
--- What putting the word y at index i leaves: of the list, and of the report from k on; n is where the report goes on. Only the mender's loop asks for it.
-use Rattle.std.specs.Prelude.{ℕ, ◌+◌, ◌≡◌, List, length, set, get_or}
+-- What making the word x at index i the word y leaves: the word, and the report from k on; n is where the report goes on. Only the mender's loop asks for it.
+use Rattle.std.specs.Prelude.{ℕ, ◌+◌, ◌≡◌, List, length}
 use Rattle.std.proofs.lemmas.List.Edits.{sets}
 use Rattle.mender.specs.Report.{change_of, numbers}
 
-pub record Replaced (w r : List ℕ) (i y k n : ℕ) (w' r' : List ℕ) : Type 0 where
-  pub list : w' ≡ set w i y
-  pub report : r' ≡ sets r k (numbers (change_of i (get_or w i 0) y))
-  pub next : n ≡ k + length (numbers (change_of i (get_or w i 0) y))
+pub record Replaced (x : ℕ) (r : List ℕ) (i y k n x' : ℕ) (r' : List ℕ) : Type 0 where
+  pub word : x' ≡ y
+  pub report : r' ≡ sets r k (numbers (change_of i x y))
+  pub next : n ≡ k + length (numbers (change_of i x y))

@@ -5,15 +5,15 @@
 mod walk; // what becomes of each word
 mod report; // a change, as three numbers
 
-ghost use Rattle.std.specs.Prelude.{◌≡◌, ◌+◌, ◌≤◌, ◌<◌, length, get_or};
+ghost use Rattle.std.specs.Prelude.{◌≡◌, ◌+◌, ◌≤◌, length};
 ghost use Rattle.std.proofs.lemmas.List.Edits.{sets};
 ghost use Rattle.mender.specs.Walk.{mended};
 ghost use Rattle.mender.specs.Report.{change_of, changes, numbers};
 ghost use Rattle.mender.specs.Replaced.{Replaced};
-ghost use Rattle.mender.specs.Mended.{Promise};
+ghost use Rattle.mender.specs.Mended.{answered, Promise};
 
-use crate::report::{Change, put_change};
-use crate::walk::{Phase, pass};
+use crate::report::{Change, Written};
+use crate::walk::pass;
 use numbers::place::WordIndex;
 
 // 0 and how many words were changed; 32 and how many would be, where the report has no room for them; 13 and 0.
@@ -24,47 +24,59 @@ pub struct Mended {
     pub changes: u32,
 }
 
-// How many words will differ.
+// Why a list is left as it was: it is too long; or the report has no room for so many changes.
+#[derive(Clone, Copy)]
+enum Unmended {
+    TooLong,
+    NoRoom(u32),
+}
+
+impl From<Result<u32, Unmended>> for Mended {
+    ghost from_gives = { λ changes m. m ≡ answered changes };
+
+    fn from(changes: Result<u32, Unmended>) -> Mended {
+        match changes {
+            Ok(changes) => Mended { number: 0, changes },
+            Err(Unmended::TooLong) => Mended {
+                number: 13,
+                changes: 0,
+            },
+            Err(Unmended::NoRoom(changes)) => Mended {
+                number: 32,
+                changes,
+            },
+        }
+    }
+}
+
+// How many words will differ. A loop of its own: this one only reads the list that `write` changes as it goes.
 fn count(list: &[u16]) -> usize
     ensures { result ≡ length (changes list.now (mended list.now)) }
 {
-    let mut phase = Phase::Inside(0);
+    let mut left = Some(0);
     let mut n: usize = 0;
-    let mut i: usize = 0;
-    while i < list.len() {
-        let word = list[i];
-        let passed = pass(phase, word, list.len() - i);
-        if passed.word != word {
+    for (i, word) in list.iter().enumerate() {
+        let passed = pass(left, *word, list.len() - i);
+        left = passed.left;
+        if passed.word != *word {
             n += 1;
         }
-        phase = passed.phase;
-        i += 1;
     }
     n
 }
 
-// A word is put in its place and, where it differs from the one there, reported from `k` on. Answers where the report goes on.
-fn replace(list: &mut [u16], report: &mut [u32], at: WordIndex, word: u16, k: usize) -> usize
-    requires at_in_bounds { at.0 < length list.old }
-    requires word_in_bounds { k + length (numbers (change_of at.0 (get_or list.old at.0 0) word)) ≤ length report.old }
-    ensures { Replaced list.old report.old at.0 word k result list.new report.new }
+// A word becomes another and, where it differs from that, is reported.
+fn replace(word: &mut u16, written: &mut Written<'_>, index: WordIndex, is: u16)
+    requires { written.old.to + length (numbers (change_of index.0 word.old is)) ≤ length written.old.report.now }
+    ensures same_reference { written.new.report.ghost_name ≡ written.old.report.ghost_name }
+    ensures replaced { Replaced word.old written.old.report.now index.0 is written.old.to written.new.to word.new written.new.report.now }
 {
-    let i = at.0 as usize;
-    let was = list[i];
-    if was == word {
-        return k;
+    let was = *word;
+    if was == is {
+        return;
     }
-    put_change(
-        report,
-        k,
-        Change {
-            index: at,
-            was,
-            is: word,
-        },
-    );
-    list[i] = word;
-    k + 3
+    written.put(Change { index, was, is });
+    *word = is;
 }
 
 // Every word, and the report from its start.
@@ -74,39 +86,37 @@ fn write(list: &mut [u16], report: &mut [u32])
     ensures { (list.new ≡ mended list.old)
         × (report.new ≡ sets report.old 0 (numbers (changes list.old (mended list.old)))) }
 {
-    let mut phase = Phase::Inside(0);
-    let mut k: usize = 0;
-    let mut i: usize = 0;
-    while i < list.len() {
-        let passed = pass(phase, list[i], list.len() - i);
-        k = replace(list, report, WordIndex(i as u32), passed.word, k);
-        phase = passed.phase;
-        i += 1;
+    let words = list.len();
+    let mut left = Some(0);
+    let mut written = Written { report, to: 0 };
+    for (i, word) in list.iter_mut().enumerate() {
+        let passed = pass(left, *word, words - i);
+        left = passed.left;
+        replace(word, &mut written, WordIndex(i as u32), passed.word);
     }
+}
+
+// How many words were changed, or why none was.
+fn try_mend(list: &mut [u16], report: &mut [u32]) -> Result<u32, Unmended>
+    ensures { Promise list.old report.old (answered result) list.new report.new }
+{
+    if 65536 < list.len() {
+        return Err(Unmended::TooLong);
+    }
+    let n = count(&*list);
+    let changes = n as u32;
+    if report.len() < 3 * n {
+        return Err(Unmended::NoRoom(changes));
+    }
+    write(list, report);
+    Ok(changes)
 }
 
 // Any list, any report: three numbers a change, its index, the old word and the new one.
 pub fn mend(list: &mut [u16], report: &mut [u32]) -> Mended
     ensures { Promise list.old report.old result list.new report.new }
 {
-    if 65536 < list.len() {
-        return Mended {
-            number: 13,
-            changes: 0,
-        };
-    }
-    let n = count(&*list);
-    if report.len() < 3 * n {
-        return Mended {
-            number: 32,
-            changes: n as u32,
-        };
-    }
-    write(list, report);
-    Mended {
-        number: 0,
-        changes: n as u32,
-    }
+    Mended::from(try_mend(list, report))
 }
 
 // The mender, for C.

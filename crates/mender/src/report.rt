@@ -13,12 +13,32 @@ pub struct Change {
     pub is: u16,
 }
 
-// The three numbers of a change, from `k` on.
-pub fn put_change(report: &mut [u32], k: usize, change: Change)
-    requires { k + 3 ≤ length report.old }
-    ensures { report.new ≡ sets report.old k (three change) }
-{
-    report[k] = change.index.0;
-    report[k + 1] = change.was as u32;
-    report[k + 2] = change.is as u32;
+impl From<Change> for [u32; 3] {
+    ghost from_gives = { λ change numbers. numbers ≡ three change };
+
+    fn from(change: Change) -> [u32; 3] {
+        [change.index.0, u32::from(change.was), u32::from(change.is)]
+    }
+}
+
+// A report, and how far it is written.
+#[derive(Drop)]
+pub struct Written<'a> {
+    pub report: &'a mut [u32],
+    pub to: usize,
+}
+
+impl<'a> Written<'a> {
+    // The three numbers of a change.
+    pub fn put(&mut self, change: Change)
+        requires { self.old.to + 3 ≤ length self.old.report.now }
+        ensures same_reference { self.new.report.ghost_name ≡ self.old.report.ghost_name }
+        ensures report { self.new.report.now ≡ sets self.old.report.now self.old.to (three change) }
+        ensures to { self.new.to ≡ self.old.to + 3 }
+    {
+        let numbers = <[u32; 3]>::from(change);
+        let to = self.to;
+        self.report[to..to + 3].copy_from_slice(&numbers);
+        self.to = to + 3;
+    }
 }

@@ -5,18 +5,12 @@ ghost use Rattle.mender.specs.Walk.{begun, passing};
 use forms::form_of;
 use forms::layout::{Layout, layout_of};
 
-// So many words of an opcode are still to come, and at 0 an opcode is due; or behind the first word of one that the end cuts.
-#[derive(Clone, Copy)]
-pub enum Phase {
-    Inside(usize),
-    Cut,
-}
-
-// What becomes of a word, and where the walk is behind it.
+// What becomes of a word, and where the walk is behind it: so many words of an opcode are still to come, and at 0 an opcode is due; or
+// None, behind the first word of one that the end cuts.
 #[derive(Clone, Copy)]
 pub struct Passed {
     pub word: u16,
-    pub phase: Phase,
+    pub left: Option<usize>,
 }
 
 // An opcode of so many words begins with this one, and `have` words are there, it among them.
@@ -25,52 +19,46 @@ fn begin(word: u16, size: usize, have: usize) -> Passed
     ensures { result ≡ begun word size have }
 {
     if have < size {
-        return Passed {
+        Passed {
             word: 0x0001,
-            phase: Phase::Cut,
-        };
-    }
-    Passed {
-        word,
-        phase: Phase::Inside(size - 1),
+            left: None,
+        }
+    } else {
+        Passed {
+            word,
+            left: Some(size - 1),
+        }
     }
 }
 
 // An opcode is due.
 fn due(word: u16, have: usize) -> Passed
-    ensures { result ≡ passing (Phase.Inside 0) word have }
+    ensures { result ≡ passing (Some 0) word have }
 {
-    let layout = layout_of(form_of(word));
-    match layout {
+    match layout_of(form_of(word)) {
         Layout::Strange => Passed {
             word: 0x0000,
-            phase: Phase::Inside(0),
+            left: Some(0),
         },
-        Layout::Plain(n) => begin(word, n as usize, have),
-        Layout::Flow(n) => begin(word, n as usize, have),
-        Layout::Ends => begin(word, 1, have),
+        Layout::Plain(n) | Layout::Flow(n) => begin(word, n as usize, have),
         Layout::Opens => begin(word, 2, have),
-        Layout::Closes => begin(word, 1, have),
+        Layout::Ends | Layout::Closes => begin(word, 1, have),
     }
 }
 
 // One word, with `have` words there, it among them.
-pub fn pass(phase: Phase, word: u16, have: usize) -> Passed
-    ensures { result ≡ passing phase word have }
+pub fn pass(left: Option<usize>, word: u16, have: usize) -> Passed
+    ensures { result ≡ passing left word have }
 {
-    match phase {
-        Phase::Inside(n) => {
-            if n == 0 {
-                return due(word, have);
-            }
-            Passed {
-                word,
-                phase: Phase::Inside(n - 1),
-            }
-        }
-        Phase::Cut => Passed {
+    match left {
+        Some(0) => due(word, have),
+        Some(n) => Passed {
+            word,
+            left: Some(n - 1),
+        },
+        None => Passed {
             word: 0x0000,
-            phase: Phase::Cut,
+            left: None,
         },
     }
 }

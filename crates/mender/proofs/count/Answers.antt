@@ -10,9 +10,6 @@ use Rattle.mender.proofs.Counting.{none-counted, one-counted, all-counted}
 use Rattle.mender.proofs.count.Goals as goal
 use Rattle.mender.proofs.count.Goals.{then-passed-word, else-passed-word}
 
-pub overflow_add-n : goal.overflow_add-n
-overflow_add-n c = omega (arith, c.loop-i.invariant.few, c.loop-i-test.true)
-
 pub loop-i-init : goal.loop-i-init
 loop-i-init c = none-counted _
 

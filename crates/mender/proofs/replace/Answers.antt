@@ -2,13 +2,15 @@
 use Rattle.mender.proofs.Writing.{same-put, room-for-three, other-put}
 use Rattle.mender.proofs.replace.Goals as goal
 
-pub returns-then-was-word : goal.returns-then-was-word
-returns-then-was-word c = let a = c.args in same-put a.list.now a.report.now a.at.0 a.word a.k c.if-was-word.true
-
-pub put_change-requires : goal.put_change-requires
-put_change-requires c =
+pub returns-then-was-is-clause-replaced : goal.returns-then-was-is-clause-replaced
+returns-then-was-is-clause-replaced c =
     let a = c.args in
-    room-for-three a.list.now a.report.now a.at.0 a.word a.k c.if-was-word.false c.requires.word_in_bounds
+    same-put a.word.now a.written.now.report.now a.index.0 a.is a.written.now.to c.if-was-is.true
 
-pub returns : goal.returns
-returns c = other-put _ _ _ _ _ c.if-was-word.false c.put_change.ensures
+pub put-requires : goal.put-requires
+put-requires c =
+    let a = c.args in
+    room-for-three a.word.now a.written.now.report.now a.index.0 a.is a.written.now.to c.if-was-is.false c.requires
+
+pub returns-clause-replaced : goal.returns-clause-replaced
+returns-clause-replaced c = other-put _ _ _ _ _ c.if-was-is.false c.put.ensures.to c.put.ensures.report

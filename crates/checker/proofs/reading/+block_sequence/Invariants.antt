@@ -11,8 +11,8 @@ decreases-block l = 2 * l.room + 1
 abbrev pub decreases-sequence : goal.decreases-sequence
 decreases-sequence l = 2 * l.room + 2
 
-abbrev pub invariant-sequence-loop-at : goal.invariant-sequence-loop-at
-invariant-sequence-loop-at l = Read l.list l.room l.fn.from (record { 0 = l.at }) l.steps
+abbrev pub invariant-sequence-loop-place : goal.invariant-sequence-loop-place
+invariant-sequence-loop-place l = Read l.list l.room l.fn.from l.place l.steps
 
-abbrev pub decreases-sequence-loop-at : goal.decreases-sequence-loop-at
-decreases-sequence-loop-at l = length l.list - l.at
+abbrev pub decreases-sequence-loop-place : goal.decreases-sequence-loop-place
+decreases-sequence-loop-place l = length l.list - l.place.0

@@ -1,13 +1,9 @@
--- `pass`: by the phase, each way is one law.
-use mathlib.Core.Path.{◌∙◌}
-use Rattle.mender.proofs.Walking.{opcode-due, operand, rest}
+-- `pass`: by what is left, each way is one law.
+use Rattle.mender.proofs.Walking.{operand, rest}
 use Rattle.mender.proofs.walk.pass.Goals as goal
 
-pub returns-then-n-eq0 : goal.returns-then-n-eq0
-returns-then-n-eq0 c = c.due.ensures ∙ opcode-due _ _ _ c.in-Inside.is c.if-n-eq0.true
+pub returns-in-Some : goal.returns-in-Some
+returns-in-Some c = let some = rw c.in-Some.is at c.in-Some.n-test in operand _ _ _ c.in-Some.is some.1
 
-pub returns-else-n-eq0 : goal.returns-else-n-eq0
-returns-else-n-eq0 c = operand _ _ _ c.in-Inside.is c.if-n-eq0.false
-
-pub returns-in-Cut : goal.returns-in-Cut
-returns-in-Cut c = rest _ _ _ c.in-Cut.is
+pub returns-in-None : goal.returns-in-None
+returns-in-None c = rest _ _ _ c.in-None.is
