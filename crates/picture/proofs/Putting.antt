@@ -1,8 +1,7 @@
 -- Colours are put one by one, as far as the room goes.
 use Rattle.std.proofs.Common.{◌≡◌, ℕ, ◌+◌, ◌*◌, ◌<◌, ◌≤◌, min, List, [], ◌∷◌, ◌++◌, length, get_or, take, sym, refl, ap, ◌∙◌, add-one, arith}
 use Rattle.std.proofs.Math.Seq.{sets, take-suc, take_all}
-use Rattle.std.proofs.lemmas.List.{length-take}
-use native.Mathlib.Decide.{dec_lt}
+use Rattle.std.proofs.lemmas.List.{length-take, take_min}
 use Rattle.io.specs.Counts.{IsPrefixLen}
 use Rattle.io.proofs.Counting.{prefix_len_of_le}
 use Rattle.text.specs.Puts.{Puts}
@@ -34,22 +33,14 @@ one-dot dots i h p e f q =
     let all = sym (ap painted (ap (λ (n : ℕ). take n dots) (add-one i) ∙ take-suc dots i 0 h) ∙ painted-append (take i dots) (get_or dots i 0 ∷ [])) in
     named all (and_then p (named last q))
 
--- the dots that fit
-pub fitting : (dots : List ℕ) (n : ℕ) → take (min (length dots) n) dots ≡ take n dots
-fitting dots n = by (dec_lt n (length dots))
-  where
-    by : Dec (n < length dots) → take (min (length dots) n) dots ≡ take n dots
-    by (yes h) = let one : min (length dots) n ≡ n = omega arith in ap (λ (k : ℕ). take k dots) one
-    by (no h) = take_all (min (length dots) n) dots (omega arith) ∙ sym (take_all n dots (omega arith))
-
 -- where they end
 pub room-on : (dots : List ℕ) (i : ℕ) {room₀ room : List ℕ} {at : ℕ} → Puts (painted (take i dots)) room₀ 0 room at
     → (at ≡ 3 * min i (length dots)) × (length room ≡ length room₀)
 room-on dots i p = (omega (arith, p.place, painted-length (take i dots), length-take i dots), same-long p)
 
-pub all-put : (dots : List ℕ) (i m : ℕ) {n : ℕ} {room₀ room : List ℕ} {at : ℕ} → length (take n dots) ≤ i → n ≡ min (length dots) m → at ≤ length room
+pub all-put : (dots : List ℕ) (i m : ℕ) {n : ℕ} {room₀ room : List ℕ} {at : ℕ} → length (take n dots) ≤ i → n ≡ min m (length dots) → at ≤ length room
     → Puts (painted (take i (take n dots))) room₀ 0 room at
     → (at ≡ length (painted (take m dots))) × (room ≡ sets room₀ 0 (painted (take m dots))) × IsPrefixLen at room
 all-put dots i m {n} {room = room} {at} h e w p =
-    let all = named (ap painted (take_all i (take n dots) h ∙ ap (λ (k : ℕ). take k dots) e ∙ fitting dots m)) p in
+    let all = named (ap painted (take_all i (take n dots) h ∙ ap (λ (k : ℕ). take k dots) e ∙ take_min m dots)) p in
     (omega (arith, all.place), all.stored, prefix_len_of_le at room w)

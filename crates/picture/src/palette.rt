@@ -57,8 +57,8 @@ const QUARTERS: [u8; 4] = [0, 85, 170, 255];
 fn of_256(byte: u8) -> Colour
     ensures { result ≡ of256 byte }
 {
-    let red = (byte % 8) as usize;
-    let green = (byte / 8 % 8) as usize;
-    let blue = (byte / 64) as usize;
+    let red = usize::from(byte % 8);
+    let green = usize::from(byte / 8 % 8);
+    let blue = usize::from(byte / 64);
     rgb(EIGHTHS[red], EIGHTHS[green], QUARTERS[blue])
 }

@@ -13,7 +13,7 @@ pub fn put_colours(dots: &[u8], room: &mut [u8]) -> usize
     ensures room_after { room.new ≡ sets room.old 0 (painted (take (length room.old / 3) dots.now)) }
     ensures prefix_len { IsPrefixLen result room.new }
 {
-    let fitting = &dots[..dots.len().min(room.len() / 3)];
+    let fitting = &dots[..(room.len() / 3).min(dots.len())];
     let mut at = 0;
     for dot in fitting {
         at = put_whole(&colour_of(*dot).bytes(), room, at);
