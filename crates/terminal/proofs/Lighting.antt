@@ -15,9 +15,6 @@ use Rattle.picture.specs.Colours.{colour_of}
 use Rattle.terminal.specs.declared.light.Light.{Light}
 use Rattle.terminal.specs.Lights.{square, with_colour, with_dots, root_up_to, Grown}
 
-pub small-square : (v : ℕ) → v ≤ 255 → square v ≤ 65025
-small-square v h = mul-le-mul {n₂ = 255} {m₂ = 255} h h
-
 -- the largest of the numbers up to k is the root, or k where the root is above
 pub root-capped : (k n r : ℕ) → r * r ≤ n → n < (r + 1) * (r + 1) → root_up_to k n ≡ min r k
 unfolding root_up_to

@@ -6,14 +6,14 @@ use native.Mathlib.Omega.{arith}
 use Rattle.std.proofs.lemmas.Nat.{le-div}
 use Rattle.terminal.specs.declared.span.Span.{Span}
 use Rattle.terminal.specs.Spans.{span_of, Inside}
-use Rattle.terminal.proofs.Dividing.{quotient}
+use Rattle.std.proofs.Math.Nat.{div-le_of_le-mul}
 
 module _ (i n size : ℕ) (h : i < n) (p : 1 ≤ size) where
   starts-inside : i * size / n < size
   starts-inside = lt_of_mul-lt-mul_right n (omega (arith, div-mul-le_self (i * size) n, mul-lt-mul_of_pos_right {k = size} h p, mul_comm n size))
 
   ends-inside : (i + 1) * size / n ≤ size
-  ends-inside = let one : i + 1 ≤ n = omega arith in quotient ((i + 1) * size) size n (omega arith) (omega (arith, mul-le-mul_right size one, mul_comm n size))
+  ends-inside = let one : i + 1 ≤ n = omega arith in div-le_of_le-mul n (omega (arith, mul-le-mul_right size one))
 
   pub in-order : i * size / n ≤ (i + 1) * size / n
   in-order =

@@ -43,6 +43,7 @@ fn put_colour(lead: &[u8], colour: Colour, depth: Depth, room: &mut [u8], at: us
     put_paint(colour, depth, room, behind)
 }
 
+#[tactic(auto, unfolding(crate::specs::Cells::paint))]
 fn put_paint(colour: Colour, depth: Depth, room: &mut [u8], at: usize) -> usize
     requires { at + 13 ≤ length room.old }
     ensures { Puts (paint depth colour) room.old at room.new result }

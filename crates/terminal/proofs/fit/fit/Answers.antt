@@ -1,13 +1,13 @@
 -- `terminal::fit::fit` meets its contract.
 use Rattle.std.proofs.Common.{◌≡◌, ◌*◌, ◌/◌, max, arith}
-use Rattle.terminal.proofs.Dividing.{quotient}
+use Rattle.std.proofs.Math.Nat.{div-le_of_le-mul}
 use Rattle.terminal.proofs.Fitting.{fills-width, fills-height}
 use Rattle.terminal.proofs.fit.fit.Goals as goal
 
 pub even-requires : goal.even-requires
 even-requires c =
     let a = c.args in
-    let q = quotient (c.clamped-columns.result * a.height) (2 * c.clamped-lines.result) a.width (omega arith) c.if-full-room.true in
+    let q = div-le_of_le-mul a.width {m = c.clamped-columns.result * a.height} {n = 2 * c.clamped-lines.result} (omega arith) in
     omega arith
 
 pub returns-then-full-room-clause-value : goal.returns-then-full-room-clause-value
@@ -16,7 +16,7 @@ returns-then-full-room-clause-value c = fills-width c.clamped-columns.ensures c.
 pub returns-then-full-room-clause-sound : goal.returns-then-full-room-clause-sound
 returns-then-full-room-clause-sound c =
     let a = c.args in
-    let q = quotient (c.clamped-columns.result * a.height) (2 * c.clamped-lines.result) a.width (omega arith) c.if-full-room.true in
+    let q = div-le_of_le-mul a.width {m = c.clamped-columns.result * a.height} {n = 2 * c.clamped-lines.result} (omega arith) in
     record { width = omega arith; height = omega arith; columns = omega arith; lines = omega arith }
 
 pub returns-clause-value : goal.returns-clause-value
