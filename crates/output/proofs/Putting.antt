@@ -1,62 +1,44 @@
 -- The bytes of words are put one word after the other, as far as the room goes.
-use Prim.Native.Nat.{ℕ, ◌+◌, ◌-◌, ◌*◌, ◌/◌, ◌<◌, ◌≤◌}
-use mathlib.Core.Path.{◌≡◌, refl, sym, ap, ap₂, subst, ◌∙◌}
-use mathlib.Core.List.{List, [], ◌∷◌, ◌++◌}
-use native.Mathlib.Numerals.{add-one}
-use native.Mathlib.Omega.{arith}
-use lib.ListN.{length, get_or, take, set}
-use lib.Seq.{sets, take_all, take-suc}
+use Rattle.std.proofs.Common.{◌≡◌, ℕ, ◌+◌, ◌*◌, ◌<◌, ◌≤◌, min, List, [], ◌∷◌, ◌++◌, length, get_or, take, sym, refl, ap, subst, ◌∙◌, add-one, arith}
+use Rattle.std.proofs.Math.Seq.{sets, take-suc, take_all}
+use Rattle.std.proofs.lemmas.List.{length-take, take_min}
+use Rattle.io.specs.Counts.{IsPrefixLen}
+use Rattle.io.proofs.Counting.{prefix_len_of_le}
 use Rattle.text.specs.Puts.{Puts}
 use Rattle.text.proofs.Joining.{and_then, same-long}
 use Rattle.output.specs.Bytes.{low_of, high_of, bytes_of}
+
+two_each : (ws : List ℕ) → length (bytes_of ws) ≡ 2 * length ws
+unfolding bytes_of
+two_each [] = refl
+two_each (w ∷ ws) = omega (arith, two_each ws)
 
 behind : (a b : List ℕ) → bytes_of (a ++ b) ≡ bytes_of a ++ bytes_of b
 unfolding bytes_of
 behind [] b = refl
 behind (w ∷ a) b = ap (λ (l : List ℕ). low_of w ∷ (high_of w ∷ l)) (behind a b)
 
-one_more : (words : List ℕ) (i : ℕ) → i < length words → bytes_of (take (i + 1) words) ≡ bytes_of (take i words) ++ (low_of (get_or words i 0) ∷ (high_of (get_or words i 0) ∷ []))
+pub none : (words room : List ℕ) → Puts (bytes_of (take 0 words)) room 0 room 0
 unfolding bytes_of
-one_more words i h = ap (λ (j : ℕ). bytes_of (take j words)) (add-one i) ∙ ap bytes_of (take-suc words i 0 h) ∙ behind (take i words) (get_or words i 0 ∷ [])
+none words room = record { stored = refl; place = refl }
 
--- i words are put, and their bytes end at `at`
-pub record Put (words room₀ room : List ℕ) (i at : ℕ) : Type 0 where
-  pub inside : i ≤ length words
-  pub two : at ≡ 2 * i
-  pub within : at ≤ length room
-  pub put : Puts (bytes_of (take i words)) room₀ 0 room at
-
-pub none : (words room : List ℕ) → Put words room room 0 0
+pub one_word : (words : List ℕ) {room₀ room room' bytes : List ℕ} (i : ℕ) {at end : ℕ} → i < length words → Puts (bytes_of (take i words)) room₀ 0 room at
+    → bytes ≡ low_of (get_or words i 0) ∷ (high_of (get_or words i 0) ∷ []) → Puts bytes room at room' end → Puts (bytes_of (take (i + 1) words)) room₀ 0 room' end
 unfolding bytes_of
-none words room = record { inside = omega arith; two = refl; within = omega arith; put = record { stored = refl; place = refl } }
+one_word words {room₀} {room} {room'} i {at} {end} h p e q =
+    let all = sym (ap bytes_of (ap (λ (n : ℕ). take n words) (add-one i) ∙ take-suc words i 0 h) ∙ behind (take i words) (get_or words i 0 ∷ [])) in
+    let last = subst (λ (s : List ℕ). Puts s room at room' end) e q in
+    subst (λ (s : List ℕ). Puts s room₀ 0 room' end) all (and_then p last)
 
-module _ {words room₀ room : List ℕ} {i at : ℕ} (c : Put words room₀ room i at) where
-  abbrev fits : List ℕ
-  fits = take (length room₀ / 2) words
+-- where they end
+pub room-on : (words : List ℕ) (i : ℕ) {room₀ room : List ℕ} {at : ℕ} → Puts (bytes_of (take i words)) room₀ 0 room at
+    → (at ≡ 2 * min i (length words)) × (length room ≡ length room₀)
+room-on words i p = (omega (arith, p.place, two_each (take i words), length-take i words), same-long p)
 
-  done : fits ≡ take i words → (at ≡ length (bytes_of fits)) × (room ≡ sets room₀ 0 (bytes_of fits))
-  done e =
-      let same = ap bytes_of (sym e) in
-      (omega (arith, c.put.place, ap length same), c.put.stored ∙ ap (sets room₀ 0) same)
-
-  pub full : length room - at < 2 → (at ≡ length (bytes_of fits)) × (room ≡ sets room₀ 0 (bytes_of fits))
-  full h =
-      let half : length room₀ / 2 ≡ i = omega (arith, c.two, c.within, same-long c.put) in
-      done (ap (λ (n : ℕ). take n words) half)
-
-  pub all : length words ≤ i → (at ≡ length (bytes_of fits)) × (room ≡ sets room₀ 0 (bytes_of fits))
-  all h = done (take_all (length room₀ / 2) words (omega (arith, c.inside, c.two, c.within, same-long c.put)) ∙ sym (take_all i words h))
-
-  pub one_word : i < length words → 2 ≤ length room - at → {low high : ℕ} → low ≡ low_of (get_or words i 0) → high ≡ high_of (get_or words i 0)
-      → Put words room₀ (set (set room at low) (at + 1) high) (i + 1) (at + 2)
-  one_word h l {low} {high} e f =
-      let both : low ∷ (high ∷ []) ≡ low_of (get_or words i 0) ∷ (high_of (get_or words i 0) ∷ []) = ap₂ (λ (x y : ℕ). x ∷ (y ∷ [])) e f in
-      let on : Puts (low ∷ (high ∷ [])) room at (set (set room at low) (at + 1) high) (at + 2) =
-      record { stored = ap (λ (j : ℕ). set (set room at low) j high) (add-one at); place = refl } in
-      let all = ap (λ (s : List ℕ). bytes_of (take i words) ++ s) both ∙ sym (one_more words i h) in
-      record {
-        inside = omega arith;
-        two = omega (arith, c.two);
-        within = omega (arith, same-long on);
-        put = subst (λ (s : List ℕ). Puts s room₀ 0 (set (set room at low) (at + 1) high) (at + 2)) all (and_then c.put on);
-      }
+pub all-put : (words : List ℕ) (i m : ℕ) {n : ℕ} {room₀ room : List ℕ} {at : ℕ} → length (take n words) ≤ i → n ≡ min m (length words) → at ≤ length room
+    → Puts (bytes_of (take i (take n words))) room₀ 0 room at
+    → (at ≡ length (bytes_of (take m words))) × (room ≡ sets room₀ 0 (bytes_of (take m words))) × IsPrefixLen at room
+all-put words i m {n} {room₀} {room} {at} h e w p =
+    let same = ap bytes_of (take_all i (take n words) h ∙ ap (λ (k : ℕ). take k words) e ∙ take_min m words) in
+    let all = subst (λ (s : List ℕ). Puts s room₀ 0 room at) same p in
+    (omega (arith, all.place), all.stored, prefix_len_of_le at room w)

@@ -2,21 +2,18 @@
 ghost use Rattle.std.specs.Prelude.{◌≡◌, ◌/◌, length, take};
 ghost use Rattle.std.proofs.lemmas.List.Edits.{sets};
 ghost use Rattle.io.specs.Counts.{IsPrefixLen};
-ghost use Rattle.output.specs.Bytes.{low_of, high_of, bytes_of};
+ghost use Rattle.output.specs.Bytes.{bytes_of};
 
-use crate::part_end;
 use std::io::Error;
+use text::join::put_whole;
 
 // Words in a part.
 const PART: usize = 32768;
 
 // Ok where all of it could be written, and else why not.
 pub fn write_list(out: &impl Print, list: &[u16]) -> Result<(), Error> {
-    let mut from = 0;
-    while from < list.len() {
-        let to = part_end(from, PART, list.len());
-        write_part(out, &list[from..to])?;
-        from = to;
+    for part in list.chunks(PART) {
+        write_part(out, part)?;
     }
     Ok(())
 }
@@ -33,28 +30,10 @@ fn put_bytes(words: &[u16], room: &mut [u8]) -> usize
     ensures room_after { room.new ≡ sets room.old 0 (bytes_of (take (length room.old / 2) words.now)) }
     ensures prefix_len { IsPrefixLen result room.new }
 {
-    let mut i = 0;
+    let fitting = &words[..(room.len() / 2).min(words.len())];
     let mut at = 0;
-    while i < words.len() {
-        if room.len() - at < 2 {
-            return at;
-        }
-        room[at] = low(words[i]);
-        room[at + 1] = high(words[i]);
-        i += 1;
-        at += 2;
+    for word in fitting {
+        at = put_whole(&word.to_le_bytes(), room, at);
     }
     at
-}
-
-fn low(word: u16) -> u8
-    ensures { result ≡ low_of word }
-{
-    (word % 256) as u8
-}
-
-fn high(word: u16) -> u8
-    ensures { result ≡ high_of word }
-{
-    (word / 256) as u8
 }

@@ -1,5 +1,5 @@
-mod Putting
-mod Summing
+mod Bits
 mod Storing
+mod Putting
 mod Chunks
 mod Examples

@@ -1,70 +1,46 @@
 -- Colours are put one by one, as far as the room goes.
-use Prim.Native.Nat.{ℕ, suc, ◌+◌, ◌-◌, ◌*◌, ◌/◌, ◌<◌, ◌≤◌}
-use mathlib.Core.Path.{◌≡◌, sym, ap, ap₂, ◌∙◌}
-use mathlib.Core.List.{List, [], ◌∷◌}
-use native.Mathlib.Numerals.{add-one}
-use native.Mathlib.Omega.{arith}
-use lib.ListN.{length, get_or, take, drop, set, length-set, length-take, drop_of_length-le}
-use lib.Seq.{sets, drop-cons, get_or-take}
+use Rattle.std.proofs.Common.{◌≡◌, ℕ, ◌+◌, ◌*◌, ◌<◌, ◌≤◌, min, List, [], ◌∷◌, ◌++◌, length, get_or, take, sym, refl, ap, ◌∙◌, add-one, arith}
+use Rattle.std.proofs.Math.Seq.{sets, take-suc, take_all}
+use Rattle.std.proofs.lemmas.List.{length-take, take_min}
+use Rattle.io.specs.Counts.{IsPrefixLen}
+use Rattle.io.proofs.Counting.{prefix_len_of_le}
+use Rattle.text.specs.Puts.{Puts}
+use Rattle.text.proofs.Joining.{and_then, same-long}
 use Rattle.picture.specs.declared.palette.Colour.{Colour}
 use Rattle.picture.specs.Colours.{colour_of, painted}
+use Rattle.picture.proofs.Storing.{named}
 
-abbrev pub fitting : List ℕ → List ℕ → List ℕ
-fitting dots room = take (length room / 3) dots
+pub painted-length : (l : List ℕ) → length (painted l) ≡ 3 * length l
+unfolding painted
+painted-length [] = refl
+painted-length (d ∷ ds) = omega (arith, painted-length ds)
 
-pub record Paints (dots room₀ room : List ℕ) (i at : ℕ) : Type 0 where
-  pub inside : i ≤ length dots
-  pub place : at ≡ 3 * i
-  pub within : at ≤ length room
-  pub long : length room ≡ length room₀
-  pub counted : at + length (painted (drop i (fitting dots room₀))) ≡ length (painted (fitting dots room₀))
-  pub stored : sets room at (painted (drop i (fitting dots room₀))) ≡ sets room₀ 0 (painted (fitting dots room₀))
+painted-append : (a b : List ℕ) → painted (a ++ b) ≡ painted a ++ painted b
+unfolding painted
+painted-append [] b = refl
+painted-append (d ∷ a) b = ap (λ (l : List ℕ). (colour_of d).red ∷ ((colour_of d).green ∷ ((colour_of d).blue ∷ l))) (painted-append a b)
 
-module _ {dots room₀ room : List ℕ} {i at : ℕ} (c : Paints dots room₀ room i at) where
-  abbrev fits : List ℕ
-  fits = fitting dots room₀
+pub no-dot : (dots room : List ℕ) → Puts (painted (take 0 dots)) room 0 room 0
+unfolding painted
+no-dot dots room = record { stored = refl; place = refl }
 
-  done : length fits ≤ i → (at ≡ length (painted fits)) × (room ≡ sets room₀ 0 (painted fits))
-  unfolding painted
-  done h =
-      let none : painted (drop i fits) ≡ [] = ap painted (drop_of_length-le fits h) in
-      (omega (arith, c.counted, ap length none), sym (ap (sets room at) none) ∙ c.stored)
+pub one-dot : (dots : List ℕ) {room₀ room room' bytes : List ℕ} (i : ℕ) {at end : ℕ} {c : Colour} → i < length dots → Puts (painted (take i dots)) room₀ 0 room at
+    → c ≡ colour_of (get_or dots i 0) → bytes ≡ c.red ∷ (c.green ∷ (c.blue ∷ [])) → Puts bytes room at room' end
+    → Puts (painted (take (i + 1) dots)) room₀ 0 room' end
+unfolding painted
+one-dot dots i h p e f q =
+    let last = f ∙ ap (λ (k : Colour). k.red ∷ (k.green ∷ (k.blue ∷ []))) e in
+    let all = sym (ap painted (ap (λ (n : ℕ). take n dots) (add-one i) ∙ take-suc dots i 0 h) ∙ painted-append (take i dots) (get_or dots i 0 ∷ [])) in
+    named all (and_then p (named last q))
 
-  pub full : length room - at < 3 → (at ≡ length (painted fits)) × (room ≡ sets room₀ 0 (painted fits))
-  full h = done (omega (arith, length-take (length room₀ / 3) dots, c.place, c.long, c.within))
+-- where they end
+pub room-on : (dots : List ℕ) (i : ℕ) {room₀ room : List ℕ} {at : ℕ} → Puts (painted (take i dots)) room₀ 0 room at
+    → (at ≡ 3 * min i (length dots)) × (length room ≡ length room₀)
+room-on dots i p = (omega (arith, p.place, painted-length (take i dots), length-take i dots), same-long p)
 
-  pub all : length dots ≤ i → (at ≡ length (painted fits)) × (room ≡ sets room₀ 0 (painted fits))
-  all h = done (omega (arith, length-take (length room₀ / 3) dots))
-
-  module _ (h : i < length dots) (l : 3 ≤ length room - at) {k : Colour} (e : k ≡ colour_of (get_or dots i 0)) where
-    opened : painted (drop i fits) ≡ k.red ∷ (k.green ∷ (k.blue ∷ painted (drop (suc i) fits)))
-    unfolding painted
-    opened =
-        let inside : i < length room₀ / 3 = omega (arith, c.place, c.long) in
-        ap painted (drop-cons fits i 0 (omega (arith, length-take (length room₀ / 3) dots)))
-        ∙ ap (λ (x : Colour). x.red ∷ (x.green ∷ (x.blue ∷ painted (drop (suc i) fits)))) (ap colour_of (get_or-take (length room₀ / 3) dots i 0 inside) ∙ sym e)
-
-    abbrev room' : List ℕ
-    room' = set (set (set room at k.red) (at + 1) k.green) (at + 2) k.blue
-
-    same-long : length room' ≡ length room
-    same-long = length-set (set (set room at k.red) (at + 1) k.green) (at + 2) k.blue ∙ length-set (set room at k.red) (at + 1) k.green ∙ length-set room at k.red
-
-    pub one-dot : Paints dots room₀ room' (i + 1) (at + 3)
-    one-dot =
-        let one : at + 1 ≡ suc at = add-one at in
-        let two : at + 2 ≡ suc (suc at) = omega arith in
-        let three : at + 3 ≡ suc (suc (suc at)) = omega arith in
-        let rest : painted (drop (i + 1) fits) ≡ painted (drop (suc i) fits) = ap (λ (j : ℕ). painted (drop j fits)) (add-one i) in
-        record {
-          inside = omega arith;
-          place = omega (arith, c.place);
-          within = omega (arith, same-long);
-          long = same-long ∙ c.long;
-          counted = omega (arith, c.counted, ap length rest, ap length opened);
-          stored =
-              ap₂ (λ (j : ℕ) (l : List ℕ). sets room' j l) three rest
-              ∙ ap₂ (λ (x y : ℕ). sets (set (set (set room at k.red) x k.green) y k.blue) (suc (suc (suc at))) (painted (drop (suc i) fits))) one two
-              ∙ sym (ap (sets room at) opened)
-              ∙ c.stored;
-        }
+pub all-put : (dots : List ℕ) (i m : ℕ) {n : ℕ} {room₀ room : List ℕ} {at : ℕ} → length (take n dots) ≤ i → n ≡ min m (length dots) → at ≤ length room
+    → Puts (painted (take i (take n dots))) room₀ 0 room at
+    → (at ≡ length (painted (take m dots))) × (room ≡ sets room₀ 0 (painted (take m dots))) × IsPrefixLen at room
+all-put dots i m {n} {room = room} {at} h e w p =
+    let all = named (ap painted (take_all i (take n dots) h ∙ ap (λ (k : ℕ). take k dots) e ∙ take_min m dots)) p in
+    (omega (arith, all.place), all.stored, prefix_len_of_le at room w)

@@ -1,6 +1,6 @@
 // The colour of a byte: 004's default palettes, the one of 16 colours for 0 to 15 and the one of 256 above.
-ghost use Rattle.std.specs.Prelude.{◌≡◌};
-ghost use Rattle.picture.specs.Colours.{rgb as rgbOf, of256, colour_of};
+ghost use Rattle.std.specs.Prelude.{◌≡◌, [], ◌∷◌};
+ghost use Rattle.picture.specs.Colours.{rgb as rgb_of, of256, colour_of};
 
 #[derive(Clone, Copy)]
 pub struct Colour {
@@ -9,12 +9,21 @@ pub struct Colour {
     pub blue: u8,
 }
 
+impl Colour {
+    pub(crate) fn bytes(self) -> [u8; 3]
+        ensures { result ≡ self.red ∷ self.green ∷ self.blue ∷ [] }
+    {
+        [self.red, self.green, self.blue]
+    }
+}
+
 fn rgb(red: u8, green: u8, blue: u8) -> Colour
-    ensures { result ≡ rgbOf red green blue }
+    ensures { result ≡ rgb_of red green blue }
 {
     Colour { red, green, blue }
 }
 
+#[tactic(auto, unfolding(crate::specs::Colours::colour_of))]
 pub fn colour_of(byte: u8) -> Colour
     ensures { result ≡ colour_of byte }
 {
@@ -48,8 +57,8 @@ const QUARTERS: [u8; 4] = [0, 85, 170, 255];
 fn of_256(byte: u8) -> Colour
     ensures { result ≡ of256 byte }
 {
-    let red = (byte % 8) as usize;
-    let green = (byte / 8 % 8) as usize;
-    let blue = (byte / 64) as usize;
+    let red = usize::from(byte % 8);
+    let green = usize::from(byte / 8 % 8);
+    let blue = usize::from(byte / 64);
     rgb(EIGHTHS[red], EIGHTHS[green], QUARTERS[blue])
 }

@@ -5,6 +5,7 @@ ghost use Rattle.picture.specs.Colours.{painted};
 ghost use Rattle.io.specs.Counts.{IsPrefixLen};
 
 use crate::palette::colour_of;
+use text::join::put_whole;
 
 // Puts three bytes for each dot into the room, as many as fit, and answers where they end.
 pub fn put_colours(dots: &[u8], room: &mut [u8]) -> usize
@@ -12,18 +13,10 @@ pub fn put_colours(dots: &[u8], room: &mut [u8]) -> usize
     ensures room_after { room.new ≡ sets room.old 0 (painted (take (length room.old / 3) dots.now)) }
     ensures prefix_len { IsPrefixLen result room.new }
 {
-    let mut i = 0;
+    let fitting = &dots[..(room.len() / 3).min(dots.len())];
     let mut at = 0;
-    while i < dots.len() {
-        if room.len() - at < 3 {
-            return at;
-        }
-        let c = colour_of(dots[i]);
-        room[at] = c.red;
-        room[at + 1] = c.green;
-        room[at + 2] = c.blue;
-        i += 1;
-        at += 3;
+    for dot in fitting {
+        at = put_whole(&colour_of(*dot).bytes(), room, at);
     }
     at
 }

@@ -7,7 +7,7 @@ use Rattle.terminal.specs.declared.cell.Depth.TheVariants.{Direct, Cube}
 use Rattle.terminal.specs.Views.{view, view_of}
 use Rattle.terminal.specs.Spans.{span_of}
 use Rattle.terminal.specs.Lights.{root_up_to, root_of}
-use Rattle.terminal.specs.Decimals.{decimal}
+use Rattle.text.specs.Decimal.{digits, decimal}
 use Rattle.terminal.specs.Cells.{level, cube, paint, upper_half_block, cell}
 
 smaller : view_of 640 400 80 24 ≡ view 640 400 76 48
@@ -35,9 +35,9 @@ unfolding level
 white = refl
 
 full-colours : cell Direct (rgb 0 85 255) (rgb 9 10 100) ≡ 27 ∷ (bytes "[38;2;0;85;255;48;2;9;10;100m" ++ upper_half_block)
-unfolding cell paint decimal
+unfolding cell paint digits decimal
 full-colours = refl
 
 few-colours : cell Cube (rgb 0 0 85) (rgb 85 255 85) ≡ 27 ∷ (bytes "[38;5;17;48;5;83m" ++ upper_half_block)
-unfolding cell paint decimal level
+unfolding cell paint digits decimal level
 few-colours = refl

@@ -1,4 +1,3 @@
-pub mod Dividing
 pub mod Fitting
 pub mod Sharing
 pub mod Putting

@@ -1,5 +1,6 @@
 -- Squares are summed dot by dot, and a root is found from above.
-use Prim.Native.Nat.{ℕ, zero, suc, ◌+◌, ◌-◌, ◌*◌, ◌<◌, ◌≤◌}
+use Prim.Native.Nat.{ℕ, zero, suc, ◌+◌, ◌*◌, ◌<◌, ◌≤◌, min}
+use native.Mathlib.Decide.{dec_lt}
 use mathlib.Core.Path.{◌≡◌, refl, sym, ap, ◌∙◌}
 use mathlib.Core.Bool.{Bool, cond}
 use mathlib.Core.List.{List, [], ◌∷◌, ◌++◌}
@@ -14,24 +15,23 @@ use Rattle.picture.specs.Colours.{colour_of}
 use Rattle.terminal.specs.declared.light.Light.{Light}
 use Rattle.terminal.specs.Lights.{square, with_colour, with_dots, root_up_to, Grown}
 
-pub small-square : (v : ℕ) → v ≤ 255 → square v ≤ 65025
-small-square v h = mul-le-mul {n₂ = 255} {m₂ = 255} h h
-
-pub not-zero : (r n : ℕ) {s : ℕ} → s ≡ square r → n < s → 1 ≤ r
-not-zero zero n e h = absurd (omega arith)
-not-zero (suc k) n e h = omega arith
-
-pub too-high : (r n : ℕ) → n < square r → root_up_to r n ≡ root_up_to (r - 1) n
+-- the largest of the numbers up to k is the root, or k where the root is above
+pub root-capped : (k n r : ℕ) → r * r ≤ n → n < (r + 1) * (r + 1) → root_up_to k n ≡ min r k
 unfolding root_up_to
-too-high zero n h = absurd (omega arith)
-too-high (suc k) n h =
-    let one : k ≡ suc k - 1 = omega arith in
-    ap (λ (b : Bool). cond b (suc k) (root_up_to k n)) (lt-leb (square (suc k)) n h) ∙ ap (λ (j : ℕ). root_up_to j n) one
-
-pub the-root : (r n : ℕ) → square r ≤ n → root_up_to r n ≡ r
-unfolding root_up_to
-the-root zero n h = refl
-the-root (suc k) n h = ap (λ (b : Bool). cond b (suc k) (root_up_to k n)) (le-leb (square (suc k)) n h)
+root-capped zero n r low high = omega arith
+root-capped (suc k) n r low high = by (dec_lt r (suc k)) (root-capped k n r low high)
+  where
+    by : Dec (r < suc k) → root_up_to k n ≡ min r k → root_up_to (suc k) n ≡ min r (suc k)
+    by (yes h) rest =
+        let one : r + 1 ≤ suc k = omega arith in
+        let above : n < square (suc k) = omega (arith, mul-le-mul {n₂ = suc k} {m₂ = suc k} one one) in
+        let same : min r k ≡ min r (suc k) = omega arith in
+        ap (λ (b : Bool). cond b (suc k) (root_up_to k n)) (lt-leb (square (suc k)) n above) ∙ rest ∙ same
+    by (no h) rest =
+        let one : suc k ≤ r = omega arith in
+        let below : square (suc k) ≤ n = omega (arith, mul-le-mul {n₂ = r} {m₂ = r} one one) in
+        let same : suc k ≡ min r (suc k) = omega arith in
+        ap (λ (b : Bool). cond b (suc k) (root_up_to k n)) (le-leb (square (suc k)) n below) ∙ same
 
 one-dot : (l : Light) (ds : List ℕ) (i : ℕ) → i < length ds → with_dots (with_colour l (colour_of (get_or ds i 0))) (drop (i + 1) ds) ≡ with_dots l (drop i ds)
 unfolding with_dots

@@ -13,16 +13,16 @@ use Rattle.text.specs.Puts.{Puts}
 use Rattle.terminal.specs.Cells.{paint, upper_half_block, cell, line_end}
 use Rattle.terminal.specs.Lines.{dot_of, cells, line}
 use Rattle.text.proofs.Joining.{and_then}
-use Rattle.terminal.proofs.Painting.{thirteen-bytes}
+use Rattle.terminal.proofs.Painting.{Bytes, thirteen-bytes}
 
-few_bytes : (d : Depth) (upper lower : Colour) → length (cell d upper lower) ≤ 39
+few_bytes : (d : Depth) (upper lower : Colour) → Bytes upper → Bytes lower → length (cell d upper lower) ≤ 39
 unfolding cell
-few_bytes d upper lower =
+few_bytes d upper lower b c =
     let end : List ℕ = bytes "m" ++ upper_half_block in
     omega (
       arith,
-      thirteen-bytes d upper,
-      thirteen-bytes d lower,
+      thirteen-bytes d upper b,
+      thirteen-bytes d lower c,
       length-append (paint d upper) (bytes ";48;" ++ (paint d lower ++ end)),
       length-append (paint d lower) end,
     )
@@ -39,14 +39,14 @@ module _ {d : Depth} {screen : List ℕ} {v : View} {j : ℕ} {room₀ : List �
 
   module _ {room : List ℕ} {at i : ℕ} (c : Lining d screen v j room₀ room at i) where
     pub one_cell : i < v.columns → {upper lower : Colour} → upper ≡ dot_of screen v i (2 * j) → lower ≡ dot_of screen v i (2 * j + 1)
-        → {room' : List ℕ} {to : ℕ} → Puts (cell d upper lower) room at room' to → Lining d screen v j room₀ room' to (i + 1)
+        → Bytes upper → Bytes lower → {room' : List ℕ} {to : ℕ} → Puts (cell d upper lower) room at room' to → Lining d screen v j room₀ room' to (i + 1)
     unfolding cells
-    one_cell h {upper} {lower} e f {room'} {to} p =
+    one_cell h {upper} {lower} e f a b {room'} {to} p =
         let all : cells d screen v j i ++ cell d upper lower ≡ cells d screen v j (i + 1) =
         ap₂ (λ (x y : Colour). cells d screen v j i ++ cell d x y) e f ∙ ap (cells d screen v j) (sym (add-one i)) in
         record {
           inside = omega arith;
-          few = omega (arith, c.few, p.place, few_bytes d upper lower);
+          few = omega (arith, c.few, p.place, few_bytes d upper lower a b);
           put = subst (λ (s : List ℕ). Puts s room₀ 0 room' to) all (and_then c.put p);
         }
 

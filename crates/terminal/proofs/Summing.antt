@@ -1,8 +1,7 @@
 -- The rows of a part are summed one by one.
-use Prim.Native.Nat.{ℕ, ◌+◌, ◌-◌, ◌*◌, ◌<◌, ◌≤◌}
+use Prim.Native.Nat.{ℕ, ◌+◌, ◌-◌, ◌*◌}
 use mathlib.Core.Path.{◌≡◌, refl, sym, ap, ◌∙◌}
 use mathlib.Core.List.{List}
-use native.Mathlib.Nat.{mul-le-mul_right, add-mul}
 use native.Mathlib.Numerals.{add-one}
 use native.Mathlib.Omega.{arith}
 use lib.ListN.{take, drop}
@@ -35,15 +34,6 @@ module _ {screen : List ℕ} {width : ℕ} {across : Span} {top : ℕ} where
               ∙ dots-append dark (rows screen width across top n) dots
               ∙ ap (λ (k : ℕ). with_dots dark (rows screen width across top k)) (sym (add-one n));
         }
-
-    pub all-summed : {k : ℕ} → n ≡ k → light ≡ with_dots dark (rows screen width across top k)
-    all-summed e = c.sum ∙ ap (λ (j : ℕ). with_dots dark (rows screen width across top j)) e
-
--- a row of a part is inside the screen
-pub row_inside : (top n count width long : ℕ) → n < count → (top + count) * width ≤ long → (top + n) * width + width ≤ long
-row_inside top n count width long h w =
-    let one : top + n + 1 ≤ top + count = omega arith in
-    omega (arith, mul-le-mul_right width one, add-mul (top + n) 1 width)
 
 pub up_to : (l : Light) (from count : ℕ) (screen : List ℕ) → with_dots l (take (from + count - from) (drop from screen)) ≡ with_dots l (take count (drop from screen))
 up_to l from count screen = let e : from + count - from ≡ count = omega arith in ap (λ (k : ℕ). with_dots l (take k (drop from screen))) e

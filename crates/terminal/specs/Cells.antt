@@ -4,7 +4,7 @@ use Rattle.text.specs.Bytes.{bytes}
 use Rattle.picture.specs.declared.palette.Colour.{Colour}
 use Rattle.terminal.specs.declared.cell.Depth.{Depth}
 use Rattle.terminal.specs.declared.cell.Depth.TheVariants.{Direct, Cube}
-use Rattle.terminal.specs.Decimals.{decimal}
+use Rattle.text.specs.Decimal.{decimal}
 
 -- which of 0, 95, 135, 175, 215 and 255 is the nearest
 unfoldable pub level : ℕ → ℕ

@@ -3,6 +3,5 @@ pub mod Views
 pub mod Spans
 pub mod Lights
 pub mod Means
-pub mod Decimals
 pub mod Cells
 pub mod Lines

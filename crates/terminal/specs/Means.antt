@@ -1,8 +1,7 @@
 -- The colour of a part of the screen.
-use Rattle.std.specs.Prelude.{ℕ, zero, suc, ◌+◌, ◌*◌, ◌≤◌, List, [], ◌++◌, length, take, drop}
+use Rattle.std.specs.Prelude.{ℕ, zero, suc, ◌+◌, ◌*◌, List, [], ◌++◌, take, drop}
 use Rattle.picture.specs.declared.palette.Colour.{Colour}
 use Rattle.terminal.specs.declared.span.Span.{Span}
-use Rattle.terminal.specs.Spans.{Inside}
 use Rattle.terminal.specs.Lights.{dark, with_dots, shade}
 
 -- the dots of a row of the screen from one on
@@ -17,16 +16,3 @@ rows screen width across top (suc n) = rows screen width across top n ++ row scr
 -- the mean light of the part's dots
 abbrev pub mean_of : List ℕ → ℕ → Span → Span → Colour
 mean_of screen width across down = shade (with_dots dark (rows screen width across down.from down.count)) (across.count * down.count)
-
-pub record Row (screen : List ℕ) (width : ℕ) (across : Span) (y : ℕ) : Type 0 where
-  pub wide : width ≤ 2048
-  pub high : y ≤ 2048
-  pub columns : Inside across width
-  pub whole : y * width + width ≤ length screen
-
--- a part of a screen of at most 2,048 dots a side
-pub record Part (screen : List ℕ) (width : ℕ) (across down : Span) : Type 0 where
-  pub wide : width ≤ 2048
-  pub columns : Inside across width
-  pub rows : Inside down 2048
-  pub whole : (down.from + down.count) * width ≤ length screen

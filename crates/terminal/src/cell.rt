@@ -1,10 +1,11 @@
 // The bytes of a character: the upper half block, with the upper dot's colour on the lower dot's.
 ghost use Rattle.std.specs.Prelude.{◌≡◌, ◌++◌, ◌+◌, ◌≤◌, length};
+ghost use Rattle.text.specs.Decimal.{decimal};
 ghost use Rattle.text.specs.Puts.{Puts};
-ghost use Rattle.terminal.specs.Cells.{level as levelOf, cube as cubeOf, direct, paint, cell, line_end};
+ghost use Rattle.terminal.specs.Cells.{level as level_of, cube as cube_of, direct, paint, cell, line_end};
 
-use crate::put::put_number;
 use picture::palette::Colour;
+use text::decimal::put_decimal;
 use text::join::put_whole;
 
 // How many colours the terminal has: 24 bits each, or 256.
@@ -13,6 +14,8 @@ pub enum Depth {
     Direct,
     Cube,
 }
+
+// A room and the place in it are two parameters, as `text::join::put_whole` has them.
 
 pub fn put_cell(upper: Colour, lower: Colour, depth: Depth, room: &mut [u8], at: usize) -> usize
     requires { at + 39 ≤ length room.old }
@@ -40,6 +43,7 @@ fn put_colour(lead: &[u8], colour: Colour, depth: Depth, room: &mut [u8], at: us
     put_paint(colour, depth, room, behind)
 }
 
+#[tactic(auto, unfolding(crate::specs::Cells::paint))]
 fn put_paint(colour: Colour, depth: Depth, room: &mut [u8], at: usize) -> usize
     requires { at + 13 ≤ length room.old }
     ensures { Puts (paint depth colour) room.old at room.new result }
@@ -59,23 +63,31 @@ fn put_direct(colour: Colour, room: &mut [u8], at: usize) -> usize
     put_number(b";", colour.blue, room, b)
 }
 
+// A number behind some bytes.
+fn put_number(lead: &[u8], n: u8, room: &mut [u8], at: usize) -> usize
+    requires { at + (length lead.now + 3) ≤ length room.old }
+    ensures { Puts (lead.now ++ decimal n) room.old at room.new result }
+{
+    let behind = put_whole(lead, room, at);
+    put_decimal(u32::from(n), room, behind)
+}
+
 // The number of the nearest colour of the 6 x 6 x 6.
 fn cube(colour: Colour) -> u8
-    ensures { result ≡ cubeOf colour }
+    ensures { result ≡ cube_of colour }
 {
     16 + 36 * level(colour.red) + 6 * level(colour.green) + level(colour.blue)
 }
 
 // The nearest of 0, 95, 135, 175, 215 and 255.
+#[tactic(auto, unfolding(crate::specs::Cells::level))]
 fn level(v: u8) -> u8
-    ensures value { result ≡ levelOf v }
+    ensures value { result ≡ level_of v }
     ensures upper_bound { result ≤ 5 }
 {
-    if v < 48 {
-        0
-    } else if v < 115 {
-        1
-    } else {
-        (v - 35) / 40
+    match v {
+        0..=47 => 0,
+        48..=114 => 1,
+        _ => (v - 35) / 40,
     }
 }

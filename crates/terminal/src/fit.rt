@@ -1,6 +1,6 @@
 // The size of a screen's picture in a window of characters, two dots high each.
-ghost use Rattle.std.specs.Prelude.{◌≡◌, ◌≤◌, max};
-ghost use Rattle.terminal.specs.Views.{Side, clamped as clampedTo, even as evenOf, view_of, Sound};
+ghost use Rattle.std.specs.Prelude.{◌≡◌, ◌≤◌};
+ghost use Rattle.terminal.specs.Views.{Side, clamped as clamped_to, even as even_of, view_of, Sound};
 
 // A screen's size, and its picture's: both in dots.
 #[derive(Clone, Copy)]
@@ -18,7 +18,7 @@ const MOST: usize = 1000;
 pub fn fit(width: u32, height: u32, columns: u32, rows: u32) -> View
     requires side { Side width }
     requires side_2 { Side height }
-    ensures value { result ≡ view_of width height (clampedTo columns) (clampedTo rows) }
+    ensures value { result ≡ view_of width height (clamped_to columns) (clamped_to rows) }
     ensures sound { Sound result }
 {
     let width = width as usize;
@@ -38,33 +38,21 @@ pub fn fit(width: u32, height: u32, columns: u32, rows: u32) -> View
     View {
         width,
         height,
-        columns: at_least_one(room / height),
+        columns: (room / height).max(1),
         lines,
     }
 }
 
 fn clamped(n: usize) -> usize
-    ensures { result ≡ clampedTo n }
+    ensures { result ≡ clamped_to n }
 {
-    if n < 1 {
-        1
-    } else if MOST < n {
-        MOST
-    } else {
-        n
-    }
+    n.clamp(1, MOST)
 }
 
 // An even number of lines.
 fn even(n: usize) -> usize
     requires { n ≤ 2000 }
-    ensures { result ≡ evenOf n }
+    ensures { result ≡ even_of n }
 {
-    2 * at_least_one((n + 1) / 2)
-}
-
-fn at_least_one(n: usize) -> usize
-    ensures { result ≡ max 1 n }
-{
-    if n < 1 { 1 } else { n }
+    2 * ((n + 1) / 2).max(1)
 }

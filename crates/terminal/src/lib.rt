@@ -5,6 +5,5 @@ pub mod cell; // the bytes of a character
 pub mod fit; // the size of the picture
 mod light; // the mean light of dots
 pub mod line; // the bytes of a row
-mod mean; // the colour of a part of the screen
-mod put; // numbers into a room
+pub mod shown; // a screen and its picture's size
 mod span; // the dots that a dot of the picture shows

@@ -1,6 +1,6 @@
 // The mean light of dots: of red, green and blue each the root of the mean of the squares.
 ghost use Rattle.std.specs.Prelude.{◌≡◌, ◌^◌, ◌≤◌, length};
-ghost use Rattle.terminal.specs.Lights.{square as squareOf, with_colour, with_dots, root_of, shade as shadeOf, Grown, Small};
+ghost use Rattle.terminal.specs.Lights.{square as square_of, with_colour, with_dots, root_of, shade as shade_of, Grown, Small};
 
 use picture::palette::{Colour, colour_of};
 
@@ -12,60 +12,62 @@ pub struct Light {
     pub blue: u64,
 }
 
+impl Light {
+    pub(crate) const DARK: Light = Light {
+        red: 0,
+        green: 0,
+        blue: 0,
+    };
+
+    fn with_colour(self, colour: Colour) -> Light
+        requires { Small self (2 ^ 60) }
+        ensures value { result ≡ with_colour self colour }
+        ensures grown { Grown self result 65025 }
+    {
+        Light {
+            red: self.red + square(colour.red),
+            green: self.green + square(colour.green),
+            blue: self.blue + square(colour.blue),
+        }
+    }
+
+    // At most a row of the screen.
+    pub(crate) fn with_dots(self, dots: &[u8]) -> Light
+        requires small { Small self (2 ^ 50) }
+        requires dots_len_bound { length dots.now ≤ 2048 }
+        ensures value { result ≡ with_dots self dots.now }
+        ensures grown { Grown self result 133171200 }
+    {
+        let mut light = self;
+        for dot in dots {
+            light = light.with_colour(colour_of(*dot));
+        }
+        light
+    }
+
+    pub(crate) fn shade(self, dots: u64) -> Colour
+        requires { 1 ≤ dots }
+        ensures { result ≡ shade_of self dots }
+    {
+        Colour {
+            red: root(self.red / dots),
+            green: root(self.green / dots),
+            blue: root(self.blue / dots),
+        }
+    }
+}
+
 fn square(v: u8) -> u64
-    ensures value { result ≡ squareOf v }
+    ensures value { result ≡ square_of v }
     ensures upper_bound { result ≤ 65025 }
 {
-    let wide = v as u64;
+    let wide = u64::from(v);
     wide * wide
-}
-
-fn with_colour(light: Light, colour: Colour) -> Light
-    requires { Small light (2 ^ 60) }
-    ensures value { result ≡ with_colour light colour }
-    ensures grown { Grown light result 65025 }
-{
-    Light {
-        red: light.red + square(colour.red),
-        green: light.green + square(colour.green),
-        blue: light.blue + square(colour.blue),
-    }
-}
-
-// At most a row of the screen.
-pub(crate) fn with_dots(before: Light, dots: &[u8]) -> Light
-    requires small { Small before (2 ^ 50) }
-    requires dots_len_bound { length dots.now ≤ 2048 }
-    ensures value { result ≡ with_dots before dots.now }
-    ensures grown { Grown before result 133171200 }
-{
-    let mut light = before;
-    let mut i = 0;
-    while i < dots.len() {
-        light = with_colour(light, colour_of(dots[i]));
-        i += 1;
-    }
-    light
 }
 
 // The largest number up to 255 whose square is at most n.
 fn root(n: u64) -> u8
     ensures { result ≡ root_of n }
 {
-    let mut r = 255;
-    while n < square(r) {
-        r -= 1;
-    }
-    r
-}
-
-pub(crate) fn shade(light: Light, dots: u64) -> Colour
-    requires { 1 ≤ dots }
-    ensures { result ≡ shadeOf light dots }
-{
-    Colour {
-        red: root(light.red / dots),
-        green: root(light.green / dots),
-        blue: root(light.blue / dots),
-    }
+    n.isqrt().min(255) as u8
 }

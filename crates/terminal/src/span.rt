@@ -19,11 +19,8 @@ pub fn share(i: usize, count: usize, size: usize) -> Span
 {
     let from = i * size / count;
     let to = (i + 1) * size / count;
-    if from < to {
-        return Span {
-            from,
-            count: to - from,
-        };
+    Span {
+        from,
+        count: (to - from).max(1),
     }
-    Span { from, count: 1 }
 }

@@ -1,29 +1,31 @@
--- `output::list::put_bytes` meets its contract: word by word.
-use native.Mathlib.Omega.{arith}
-use lib.ListN.{length-set}
-use Rattle.io.proofs.Counting.{prefix_len_of_le}
-use Rattle.output.proofs.Putting.{none, full, all, one_word}
+-- `output::list::put_bytes` meets its contract: the words so far are put.
+use Rattle.std.proofs.Common.{◌≡◌, ℕ, ◌/◌, ◌%◌, ◌<◌, length, get_or, take, min, List, [], ◌∷◌, ap, ◌∙◌, arith}
+use Rattle.std.proofs.Math.Seq.{get_or-take}
+use Rattle.std.proofs.lemmas.List.{length-take}
+use Rattle.output.proofs.Putting.{none, one_word, room-on, all-put}
 use Rattle.output.proofs.list.put_bytes.Goals as goal
 
-pub loop-i-init : goal.loop-i-init
-loop-i-init c = none _ _
+pub loop-word-init : goal.loop-word-init
+loop-word-init c = none (take c.min.result c.args.words.now) c.args.room.now
 
-pub returns-then-room-at-lt2 : goal.returns-then-room-at-lt2
-returns-then-room-at-lt2 c =
-    let l = c.loop-i.invariant in
-    let r = full l c.if-room-at-lt2.true in
-    record { value = r.0; room_after = r.1; prefix_len = prefix_len_of_le _ _ l.within }
+pub put_whole-at-requires : goal.put_whole-at-requires
+put_whole-at-requires c =
+    let r = room-on (take c.min.result c.args.words.now) c.loop-word.word-index c.loop-word.invariant in
+    omega (arith, length-take c.min.result c.args.words.now, ap length c.to_le_bytes.ensures)
 
-pub bounds-room-at-in-loop-i : goal.bounds-room-at-in-loop-i
-bounds-room-at-in-loop-i c = simp length-set (omega arith)
-
-pub loop-i-preserved : goal.loop-i-preserved
-loop-i-preserved c =
-    let e = c.before.before.before.before in
-    one_word e.loop-i.invariant e.loop-i-test.true e.if-room-at-lt2.false c.low.ensures c.high.ensures
+pub loop-word-preserved : goal.loop-word-preserved
+loop-word-preserved c =
+    let words : List ℕ = take c.min.result c.args.words.now in
+    let i : ℕ = c.loop-word.word-index in
+    let high : get_or words i 0 / 256 % 256 ≡ get_or words i 0 / 256 =
+    let i_fits : i < c.min.result = omega (arith, length-take c.min.result c.args.words.now) in
+    omega (arith, get_or-take c.min.result c.args.words.now i 0 i_fits, c.type_inv.words i) in
+    one_word words i c.loop-word-test.true c.loop-word.invariant (c.to_le_bytes.ensures ∙ ap (λ (k : ℕ). get_or words i 0 % 256 ∷ (k ∷ [])) high) c.put_whole-at.ensures
 
 pub returns : goal.returns
 returns c =
-    let l = c.loop-i.invariant in
-    let r = all l c.loop-i-test.false in
-    record { value = r.0; room_after = r.1; prefix_len = prefix_len_of_le _ _ l.within }
+    let words : List ℕ = take c.min.result c.args.words.now in
+    let r = room-on words c.loop-word.word-index c.loop-word.invariant in
+    let n : length words ≡ min c.min.result (length c.args.words.now) = length-take c.min.result c.args.words.now in
+    let p = all-put c.args.words.now c.loop-word.word-index (length c.args.room.now / 2) c.loop-word-test.false c.min.ensures (omega arith) c.loop-word.invariant in
+    record { value = p.0; room_after = p.1; prefix_len = p.2 }

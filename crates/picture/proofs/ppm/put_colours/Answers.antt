@@ -1,33 +1,24 @@
--- `picture::ppm::put_colours` meets its contract: what is still to be put, put, leaves what is asked.
-use mathlib.Core.Path.{refl}
-use native.Mathlib.Omega.{arith}
-use lib.ListN.{length-set}
-use Rattle.io.proofs.Counting.{prefix_len_of_le}
-use Rattle.picture.proofs.Putting.{full, all, one-dot}
+-- `picture::ppm::put_colours` meets its contract: the dots so far are put.
+use Rattle.std.proofs.Common.{◌≡◌, ◌/◌, length, take, min, ap, arith}
+use Rattle.std.proofs.lemmas.List.{length-take}
+use Rattle.picture.proofs.Putting.{no-dot, one-dot, room-on, all-put}
 use Rattle.picture.proofs.ppm.put_colours.Goals as goal
 
-pub loop-i-init : goal.loop-i-init
-loop-i-init c = record { inside = omega arith; place = omega arith; within = omega arith; long = refl; counted = omega arith; stored = refl }
+pub loop-dot-init : goal.loop-dot-init
+loop-dot-init c = no-dot (take c.min.result c.args.dots.now) c.args.room.now
 
-pub returns-then-room-at-lt3 : goal.returns-then-room-at-lt3
-returns-then-room-at-lt3 c =
-    let l = c.loop-i.invariant in
-    let r = full l c.if-room-at-lt3.true in
-    record { value = r.0; room_after = r.1; prefix_len = prefix_len_of_le _ _ l.within }
+pub put_whole-at-requires : goal.put_whole-at-requires
+put_whole-at-requires c =
+    let r = room-on (take c.min.result c.args.dots.now) c.loop-dot.dot-index c.loop-dot.invariant in
+    omega (arith, length-take c.min.result c.args.dots.now, ap length c.bytes.ensures)
 
-pub bounds-room-at-in-loop-i : goal.bounds-room-at-in-loop-i
-bounds-room-at-in-loop-i c = simp length-set (omega arith)
-
-pub bounds-room-at-in-loop-i-2 : goal.bounds-room-at-in-loop-i-2
-bounds-room-at-in-loop-i-2 c = simp length-set (omega arith)
-
-pub loop-i-preserved : goal.loop-i-preserved
-loop-i-preserved c =
-    let e = c.before.before in
-    one-dot e.loop-i.invariant e.loop-i-test.true e.if-room-at-lt3.false c.colour_of-c.ensures
+pub loop-dot-preserved : goal.loop-dot-preserved
+loop-dot-preserved c =
+    one-dot (take c.min.result c.args.dots.now) c.loop-dot.dot-index c.loop-dot-test.true c.loop-dot.invariant c.colour_of.ensures c.bytes.ensures c.put_whole-at.ensures
 
 pub returns : goal.returns
 returns c =
-    let l = c.loop-i.invariant in
-    let r = all l c.loop-i-test.false in
-    record { value = r.0; room_after = r.1; prefix_len = prefix_len_of_le _ _ l.within }
+    let r = room-on (take c.min.result c.args.dots.now) c.loop-dot.dot-index c.loop-dot.invariant in
+    let n : length (take c.min.result c.args.dots.now) ≡ min c.min.result (length c.args.dots.now) = length-take c.min.result c.args.dots.now in
+    let p = all-put c.args.dots.now c.loop-dot.dot-index (length c.args.room.now / 3) c.loop-dot-test.false c.min.ensures (omega arith) c.loop-dot.invariant in
+    record { value = p.0; room_after = p.1; prefix_len = p.2 }

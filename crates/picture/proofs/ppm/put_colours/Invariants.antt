@@ -1,11 +1,8 @@
--- `picture::ppm::put_colours` meets its contract: what is still to be put, put, leaves what is asked.
-use Prim.Native.Nat.{◌-◌}
-use lib.ListN.{length}
-use Rattle.picture.proofs.Putting.{Paints}
+-- `picture::ppm::put_colours` meets its contract: the dots so far are put.
+use Rattle.std.proofs.Common.{take}
+use Rattle.text.specs.Puts.{Puts}
+use Rattle.picture.specs.Colours.{painted}
 use Rattle.picture.proofs.ppm.put_colours.Given as goal
 
-abbrev pub invariant-loop-i : goal.invariant-loop-i
-invariant-loop-i l = Paints l.dots l.initial.room l.room l.i l.at
-
-abbrev pub decreases-loop-i : goal.decreases-loop-i
-decreases-loop-i l = length l.dots - l.i
+abbrev pub invariant-loop-dot : goal.invariant-loop-dot
+invariant-loop-dot l = Puts (painted (take l.dot-index l.fitting)) l.initial.room 0 l.room l.at
