@@ -4,7 +4,7 @@ ghost use Rattle.desk.specs.Faults.{fault_of};
 
 use text::number::Flaw;
 
-#[derive(Clone, Copy)]
+#[derive(Clone, Copy, Debug, PartialEq, Eq)]
 pub enum Fault {
     Unknown,
     Missing,
@@ -18,18 +18,14 @@ pub enum Fault {
     Unended,
 }
 
-#[derive(Clone, Copy)]
-pub enum Outcome {
-    Fine,
-    Wrong(Fault),
-}
-
 // What is wrong with a line whose number is wrong.
-pub fn fault_of(flaw: Flaw) -> Fault
-    ensures { result ≡ fault_of flaw }
-{
-    match flaw {
-        Flaw::Foreign => Fault::NoNumber,
-        Flaw::Large => Fault::Range,
+impl From<Flaw> for Fault {
+    ghost from_gives = { λ flaw fault. fault ≡ fault_of flaw };
+
+    fn from(flaw: Flaw) -> Fault {
+        match flaw {
+            Flaw::Foreign => Fault::NoNumber,
+            Flaw::Large => Fault::Range,
+        }
     }
 }
