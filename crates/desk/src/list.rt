@@ -22,7 +22,8 @@ pub fn read_list(line: &[u8], room: &mut [u16]) -> Result<usize, Fault>
     Ok(words)
 }
 
-// Puts the item's word behind the first `words` words, as often as the item says.
+// Puts the item's word behind the first `words` words, as often as the item says. A room and how many words of it are the list, since
+// memory is lent and fixed.
 fn read_item(item: &[u8], room: &mut [u16], words: usize) -> Result<usize, Fault>
     requires { words ≤ length room.old }
     ensures room_after { loaded result room.new ≡ read_item item.now room.old words }
