@@ -1,9 +1,8 @@
 -- What stands first on a line and in a field's name decides.
-use Rattle.std.proofs.Common.{◌≡◌, ℕ, Bool, false, cond, List, [], ◌∷◌, length, drop, get_or, eqb, refl, sym, ap, ap₂, ◌∙◌, arith, ne_eqb}
-use Rattle.std.specs.Prelude.{Option, None, Some, Err, slice_get}
+use Rattle.std.proofs.Common.{◌≡◌, ℕ, Bool, cond, List, [], ◌∷◌, length, drop, get_or, eqb, refl, sym, ap, ap₂, ◌∙◌, arith, ne_eqb}
+use Rattle.std.specs.Prelude.{None, Some, Err, slice_get}
 use Rattle.text.specs.Items.{items}
 use Rattle.desk.specs.declared.desk.Desk.{Desk}
-use Rattle.desk.specs.declared.command.Command as Line
 use Rattle.desk.specs.declared.command.Command.TheVariants.{Nothing, Heading}
 use Rattle.desk.specs.declared.fault.Fault.TheVariants.{NoField}
 use Rattle.desk.specs.declared.field.Part.TheVariants.{Start, Left}
