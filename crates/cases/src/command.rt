@@ -13,7 +13,7 @@ use desk::set::set_field;
 use text::items::item;
 use text::number::unsigned;
 
-// What is kept behind the line. A line that is wrong leaves the desk as it was.
+// What is kept behind the line; a line that is wrong leaves the desk as it was.
 pub fn carry_out(
     out: &impl Print,
     line: &[u8],
@@ -23,19 +23,27 @@ pub fn carry_out(
     let command = command_of(line);
     well_formed(line, command)?;
     match command {
-        Command::Nothing => (),
-        Command::Heading => print::bytes(out, line),
-        Command::Fresh => return fresh(out, line, rooms.screen),
-        Command::Set => return set_field(desk, item(line, 1), item(line, 2)),
-        Command::Bytes => return bytes(line, desk, rooms.screen),
-        Command::Budget => return budget(line, desk),
-        Command::List => return list(line, desk, rooms.words),
-        Command::Run => return Ok(run_list(out, desk, rooms.words, rooms.screen)),
-        Command::Lit => lit(out, line)?,
-        Command::Check => check_list(out, desk, rooms.words),
-        Command::Unknown => return Err(Fault::Unknown),
+        Command::Nothing => Ok(desk),
+        Command::Heading => {
+            print::bytes(out, line);
+            Ok(desk)
+        }
+        Command::Fresh => fresh(out, line, rooms.screen),
+        Command::Set => set_field(desk, item(line, 1), item(line, 2)),
+        Command::Bytes => bytes(line, desk, rooms.screen),
+        Command::Budget => budget(line, desk),
+        Command::List => list(line, desk, rooms.words),
+        Command::Run => Ok(run_list(out, desk, rooms.words, rooms.screen)),
+        Command::Lit => {
+            lit(out, line)?;
+            Ok(desk)
+        }
+        Command::Check => {
+            check_list(out, desk, rooms.words);
+            Ok(desk)
+        }
+        Command::Unknown => Err(Fault::Unknown),
     }
-    Ok(desk)
 }
 
 fn bytes(line: &[u8], desk: Desk, screen: &mut [u8; SCREEN]) -> Result<Desk, Fault> {
@@ -61,6 +69,7 @@ fn list(line: &[u8], desk: Desk, words: &mut [u16; WORDS]) -> Result<Desk, Fault
     Ok(after)
 }
 
+// The list and the bytes that are lent, of their rooms.
 fn run_list(out: &impl Print, desk: Desk, words: &[u16; WORDS], screen: &mut [u8; SCREEN]) -> Desk {
     run(out, desk, &words[..desk.words], &mut screen[..desk.bytes])
 }

@@ -1,9 +1,8 @@
 -- A list is read item by item, and an item's word is put behind those before it.
-use Rattle.std.proofs.Common.{◌≡◌, ℕ, ◌+◌, ◌-◌, ◌<◌, ◌≤◌, Bool, cond, List, [], ◌++◌, length, take, append_assoc, get_or, drop, replicate, sym, ap, ◌∙◌, add-one, arith, drop-cons, drop_of_length-le, le-ltb}
+use Rattle.std.proofs.Common.{◌≡◌, ℕ, ◌+◌, ◌-◌, ◌<◌, ◌≤◌, Bool, cond, List, [], ◌++◌, length, take, append_assoc, get_or, drop, replicate, sym, ap, ◌∙◌, add-one, arith, drop-cons, drop-drop, drop_of_length-le, le-ltb}
 use Rattle.std.specs.Prelude.{Result, Ok, Err}
 use Rattle.std.proofs.lemmas.List.Edits.{sets, sets-eq}
 use Rattle.std.proofs.lemmas.List.{length-replicate}
-use Rattle.std.proofs.Common.{drop-drop}
 use borrow.Rule.Slice.PartMut.{put_mid}
 use Rattle.desk.specs.declared.fault.Fault.{Fault}
 use Rattle.desk.specs.declared.fault.Fault.TheVariants.{TooMany}
