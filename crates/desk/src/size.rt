@@ -17,7 +17,7 @@ pub fn read_six(line: &[u8]) -> Result<[u32; 6], Fault>
     Ok(numbers)
 }
 
-// The bytes of a screen whose size is allowed, and 0 for any other.
+// The bytes of a screen whose size is allowed, and 0 for any other: a count and no refusal, since that screen is made too, of no bytes.
 pub fn area(width: u32, height: u32) -> usize
     ensures value { result ≡ area_of width height }
     ensures upper_bound { result ≤ 4194304 }
