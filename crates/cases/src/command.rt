@@ -1,106 +1,79 @@
 // Carries out one line of the file.
-ghost use Rattle.desk.specs.Rooms.{WithinRooms};
-
 use crate::checked::check;
 use crate::fresh::fresh;
 use crate::lit_dots::lit;
 use crate::print;
+use crate::rooms::{Rooms, SCREEN};
 use crate::runs::run;
-use crate::screen::{SCREEN, clear};
 use desk::command::{Command, command_of, well_formed};
-use desk::desk::{Carried, Desk, fine, wrong};
-use desk::fault::{Fault, Outcome, fault_of};
+use desk::desk::Desk;
+use desk::fault::Fault;
 use desk::list::{WORDS, read_list};
 use desk::set::set_field;
 use text::items::item;
-use text::number::{Number, unsigned};
+use text::number::unsigned;
 
+// What is kept behind the line; a line that is wrong leaves the desk as it was.
 pub fn carry_out(
     out: &impl Print,
     line: &[u8],
     desk: Desk,
-    words: &mut [u16; WORDS],
-    screen: &mut [u8; SCREEN],
-) -> Carried
-    requires { WithinRooms desk }
-    ensures { WithinRooms result.desk }
-{
+    rooms: &mut Rooms,
+) -> Result<Desk, Fault> {
     let command = command_of(line);
-    if let Outcome::Wrong(fault) = well_formed(line, command) {
-        return wrong(desk, fault);
-    }
+    well_formed(line, command)?;
     match command {
-        Command::Nothing => fine(desk),
-        Command::Heading => heading(out, line, desk),
-        Command::Fresh => fresh(out, line, desk, screen),
+        Command::Nothing => Ok(desk),
+        Command::Heading => {
+            print::bytes(out, line);
+            Ok(desk)
+        }
+        Command::Fresh => fresh(out, line, rooms.screen),
         Command::Set => set_field(desk, item(line, 1), item(line, 2)),
-        Command::Bytes => bytes(line, desk, screen),
+        Command::Bytes => bytes(line, desk, rooms.screen),
         Command::Budget => budget(line, desk),
-        Command::List => list(line, desk, words),
-        Command::Run => run(out, desk, words, screen),
-        Command::Lit => lit(out, line, desk),
-        Command::Check => check(out, desk, words),
-        Command::Unknown => wrong(desk, Fault::Unknown),
+        Command::List => list(line, desk, rooms.words),
+        Command::Run => Ok(run_list(out, desk, rooms.words, rooms.screen)),
+        Command::Lit => {
+            lit(out, line)?;
+            Ok(desk)
+        }
+        Command::Check => {
+            check_list(out, desk, rooms.words);
+            Ok(desk)
+        }
+        Command::Unknown => Err(Fault::Unknown),
     }
 }
 
-fn heading(out: &impl Print, line: &[u8], desk: Desk) -> Carried
-    requires { WithinRooms desk }
-    ensures { WithinRooms result.desk }
-{
-    print::line(out, line);
-    fine(desk)
-}
-
-fn bytes(line: &[u8], desk: Desk, screen: &mut [u8; SCREEN]) -> Carried
-    requires { WithinRooms desk }
-    ensures { WithinRooms result.desk }
-{
-    let read = unsigned(item(line, 1));
-    match read {
-        Number::Is(n) => lend(desk, n as usize, screen),
-        Number::Wrong(flaw) => wrong(desk, fault_of(flaw)),
-    }
-}
-
-fn lend(desk: Desk, bytes: usize, screen: &mut [u8; SCREEN]) -> Carried
-    requires { WithinRooms desk }
-    ensures { WithinRooms result.desk }
-{
+fn bytes(line: &[u8], desk: Desk, screen: &mut [u8; SCREEN]) -> Result<Desk, Fault> {
+    let bytes = unsigned(item(line, 1))? as usize;
     if SCREEN < bytes {
-        return wrong(desk, Fault::Range);
+        return Err(Fault::Range);
     }
-    clear(screen, bytes);
+    screen[..bytes].fill(0);
     let mut after = desk;
     after.bytes = bytes;
-    fine(after)
+    Ok(after)
 }
 
-fn budget(line: &[u8], desk: Desk) -> Carried
-    requires { WithinRooms desk }
-    ensures { WithinRooms result.desk }
-{
-    let read = unsigned(item(line, 1));
-    match read {
-        Number::Is(n) => {
-            let mut after = desk;
-            after.budget = n;
-            fine(after)
-        }
-        Number::Wrong(flaw) => wrong(desk, fault_of(flaw)),
-    }
-}
-
-fn list(line: &[u8], desk: Desk, words: &mut [u16; WORDS]) -> Carried
-    requires { WithinRooms desk }
-    ensures { WithinRooms result.desk }
-{
-    let listed = read_list(line, words);
+fn budget(line: &[u8], desk: Desk) -> Result<Desk, Fault> {
     let mut after = desk;
-    after.words = listed.words;
-    let outcome = listed.outcome;
-    Carried {
-        desk: after,
-        outcome,
-    }
+    after.budget = unsigned(item(line, 1))?;
+    Ok(after)
+}
+
+fn list(line: &[u8], desk: Desk, words: &mut [u16; WORDS]) -> Result<Desk, Fault> {
+    let mut after = desk;
+    after.words = read_list(line, words)?;
+    Ok(after)
+}
+
+// The list and the bytes that are lent, of their rooms.
+fn run_list(out: &impl Print, desk: Desk, words: &[u16; WORDS], screen: &mut [u8; SCREEN]) -> Desk {
+    run(out, desk, &words[..desk.words], &mut screen[..desk.bytes])
+}
+
+fn check_list(out: &impl Print, desk: Desk, words: &[u16; WORDS]) {
+    check(out, &words[..desk.words]);
 }

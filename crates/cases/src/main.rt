@@ -4,20 +4,20 @@
 mod answer; // prints an answer
 mod checked; // checks the list
 mod command; // carries a line out
-mod fault; // says what is wrong with a line
 mod file; // goes through the file
 mod fresh; // makes a fresh environment
 mod lit_dots; // counts lit dots
-mod print; // writes text and numbers
+mod print; // prints lines
+mod rooms; // what is lent for the list and the screen
 mod runs; // runs the list
-mod screen; // clears and prints the screen
+mod screen; // prints the screen
 
 use desk::list::WORDS;
 use file::{TEXT, go_through};
 use outside::arguments::arg;
 use outside::file::open_read;
 use print::line;
-use screen::SCREEN;
+use rooms::{Rooms, SCREEN};
 use std::fs::File;
 
 fn main(rt: HostRuntime) {
@@ -25,12 +25,12 @@ fn main(rt: HostRuntime) {
     let mut path = io::buffer();
     let length = arg(&rt, 1, &mut path);
     if length == 0 {
-        line(&out, b"no file of cases is named");
+        line(&out, "no file of cases is named");
         return;
     }
     match open_read(&rt, &path[..length]) {
         Ok(file) => all_of(&out, file),
-        Err(_) => line(&out, b"the file of cases cannot be opened"),
+        Err(_) => line(&out, "the file of cases cannot be opened"),
     }
 }
 
@@ -39,5 +39,9 @@ fn all_of(out: &impl Print, file: File) {
     let mut text = [0u8; TEXT];
     let mut words = [0u16; WORDS];
     let mut screen = [0u8; SCREEN];
-    go_through(out, &mut file, &mut text, &mut words, &mut screen);
+    let mut rooms = Rooms {
+        words: &mut words,
+        screen: &mut screen,
+    };
+    go_through(out, &mut file, &mut text, &mut rooms);
 }

@@ -1,27 +1,16 @@
 // Runs the list and prints the answer.
-ghost use Rattle.std.specs.Prelude.{◌≤◌, length};
-ghost use Rattle.desk.specs.Rooms.{WithinRooms};
-
 use crate::answer::print_answer;
 use crate::screen::print_screen;
-use desk::desk::{Carried, Desk, fine, with_env};
+use desk::desk::Desk;
 use rules::answer::Answer;
 use rules::environment::Env;
 
-pub fn run(out: &impl Print, desk: Desk, words: &[u16], screen: &mut [u8]) -> Carried
-    requires within_rooms { WithinRooms desk }
-    requires words_in_bounds { (desk.words ≤ length words.now) × (desk.bytes ≤ length screen.old) }
-    ensures { WithinRooms result.desk }
-{
-    let count = desk.words;
-    let bytes = desk.bytes;
-    let env = desk.env;
-    let lent = &mut screen[..bytes];
-    let answer = answered(&words[..count], lent, env, desk.budget);
-    let after = with_env(desk, answer.env);
+pub fn run(out: &impl Print, desk: Desk, list: &[u16], screen: &mut [u8]) -> Desk {
+    let answer = answered(list, screen, desk.env, desk.budget);
+    let env = answer.env;
     print_answer(out, answer);
-    print_screen(out, lent, after.env.bounds.width as usize);
-    fine(after)
+    print_screen(out, screen, env.bounds.width as usize);
+    desk.with_env(env)
 }
 
 // The box's answer, with none of its promises: no proof here leans on them.

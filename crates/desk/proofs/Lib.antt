@@ -1,5 +1,5 @@
-pub mod Storing
-mod Lines
+mod Deskwise
+mod Letters
 mod Listing
-mod Setting
+mod Naming
 mod Sizing

@@ -1,13 +1,11 @@
 -- The fields of the environment: the names, in the fields' order, and how a value is read.
-use Rattle.std.specs.Prelude.{ℕ, List, [], ◌∷◌, map, get_or}
+use Rattle.std.specs.Prelude.{ℕ, List, [], ◌∷◌, map, get_or, Option, None, Some, Result}
 use Rattle.text.specs.Items.{items, place_in}
 use Rattle.text.specs.Bytes.{bytes}
 use Rattle.text.specs.Number.{decimal_of, at_most, signed_of}
-use Rattle.text.specs.declared.number.Number.{Number}
+use Rattle.text.specs.declared.number.Flaw.{Flaw}
 use Rattle.desk.specs.declared.field.Field.{Field}
 use Rattle.desk.specs.declared.field.Field.TheVariants.{Bound, Position, Origin, Corner, Register, Nesting}
-use Rattle.desk.specs.declared.field.Found.{Found}
-use Rattle.desk.specs.declared.field.Found.TheVariants.{Is, Nothing}
 use Rattle.desk.specs.declared.field.Bound.TheVariants.{Width, Height, Left, Top, Right, Bottom}
 use Rattle.desk.specs.declared.field.Axis.TheVariants.{X, Y}
 use Rattle.desk.specs.declared.field.Corner.TheVariants.{X0, Y0, X1, Y1}
@@ -28,8 +26,8 @@ fields =
 unfoldable pub names : List (List ℕ)
 names = items (bytes "width height left top right bottom x y ox oy x0 y0 x1 y1 mode pattern first second counter depth place colour state nesting")
 
-unfoldable pub field_of : List ℕ → Found
-field_of name = get_or (map Is fields) (place_in name names) Nothing
+unfoldable pub field_of : List ℕ → Option Field
+field_of name = get_or (map Some fields) (place_in name names) None
 
 -- two registers take a minus sign, and two are bytes
 abbrev pub kind_of_register : Name.Register → Kind
@@ -52,7 +50,7 @@ kind_of (Corner c) = Signed
 kind_of (Register r) = kind_of_register r
 kind_of Nesting = Unsigned
 
-abbrev pub read_as : Kind → List ℕ → Number
+abbrev pub read_as : Kind → List ℕ → Result ℕ Flaw
 read_as Unsigned v = decimal_of v
 read_as Signed v = signed_of v
 read_as Byte v = at_most 255 (decimal_of v)

@@ -1,8 +1,8 @@
 -- What the contracts cite.
-pub mod Rooms
 pub mod Desks
 pub mod Sizes
 pub mod Faults
+pub mod Tables
 pub mod Commands
 pub mod Fields
 pub mod Lists

@@ -1,5 +1,5 @@
 -- The environment with one field set to a value's bits: 'set NAME VALUE'.
-use Rattle.std.specs.Prelude.{ℕ, ◌%◌, cond, List, [], ◌∷◌, ltb, eqb, ℤ, set, get_or}
+use Rattle.std.specs.Prelude.{ℕ, ◌%◌, cond, List, [], ◌∷◌, ltb, eqb, ℤ, set, get_or, Option, None, Some, Result, Ok, Err}
 use Rattle.numbers.specs.Number.{signed32}
 use Rattle.numbers.specs.declared.place.WordIndex.{WordIndex}
 use Rattle.raster.specs.declared.dots.Dot.{Dot}
@@ -11,12 +11,11 @@ use Rattle.rules.specs.declared.environment.Registers.{Registers}
 use Rattle.rules.specs.declared.environment.Repeat.{Repeat}
 use Rattle.rules.specs.Environment.{over}
 use Rattle.text.specs.Number.{decimal_of, signed_of}
-use Rattle.text.specs.declared.number.Number.{Number}
+use Rattle.text.specs.declared.number.Flaw.{Flaw}
 use Rattle.desk.specs.declared.desk.Desk.{Desk}
-use Rattle.desk.specs.declared.desk.Carried.{Carried}
+use Rattle.desk.specs.declared.fault.Fault.{Fault}
 use Rattle.desk.specs.declared.fault.Fault.TheVariants.{NoField}
 use Rattle.desk.specs.declared.field.Field.{Field}
-use Rattle.desk.specs.declared.field.Found.{Found}
 use Rattle.desk.specs.declared.field.Bound.{Bound}
 use Rattle.desk.specs.declared.field.Bound.TheVariants.{Width, Height, Left, Top, Right, Bottom}
 use Rattle.desk.specs.declared.field.Axis.{Axis}
@@ -27,8 +26,8 @@ use Rattle.desk.specs.declared.field.Register.{Register}
 use Rattle.desk.specs.declared.field.Register.TheVariants.{Mode, Pattern, First, Second, Counter, Depth, Place, Colour, State}
 use Rattle.desk.specs.declared.field.Part.{Part}
 use Rattle.desk.specs.declared.field.Part.TheVariants.{Start, Left as Passes}
-use Rattle.desk.specs.Desks.{fine, wrong, with_env}
-use Rattle.desk.specs.Faults.{fault_of}
+use Rattle.desk.specs.Desks.{with_env}
+use Rattle.desk.specs.Faults.{and_then}
 use Rattle.desk.specs.Fields.{field_of, kind_of, read_as}
 
 -- ---- one number of a part
@@ -119,34 +118,40 @@ abbrev pub with_repeat : Part → ℕ → ℕ → Env → Env
 with_repeat p i n e = with_repeats (set e.repeats i (with_part p n (get_or e.repeats i over))) e
 
 -- ---- what the line leaves
-abbrev pub stored : Desk → (ℕ → Env) → Number → Carried
-stored d put (Number.Is n) = fine (with_env d (put n))
-stored d put (Number.Wrong f) = wrong d (fault_of f)
+abbrev pub stored : Desk → (ℕ → Env) → Result ℕ Flaw → Result Desk Fault
+stored d put value = and_then value (λ n. Ok (with_env d (put n)))
 
 -- a number above the last one names no field
-abbrev pub numbered : ℕ → Desk → (ℕ → ℕ → Env) → Number → Number → Carried
-numbered last d put (Number.Is i) value = cond (ltb last i) (wrong d NoField) (stored d (put i) value)
-numbered last d put (Number.Wrong f) value = wrong d NoField
+abbrev pub up_to : ℕ → Result ℕ Flaw → Result ℕ Fault
+up_to last (Ok i) = cond (ltb last i) (Err NoField) (Ok i)
+up_to last (Err f) = Err NoField
 
-abbrev pub set_variable : Desk → List ℕ → List ℕ → Carried
+abbrev pub at_number : Result ℕ Fault → (ℕ → Result Desk Fault) → Result Desk Fault
+at_number (Ok i) further = further i
+at_number (Err f) further = Err f
+
+abbrev pub numbered : ℕ → Desk → (ℕ → ℕ → Env) → Result ℕ Flaw → Result ℕ Flaw → Result Desk Fault
+numbered last d put number value = at_number (up_to last number) (λ i. stored d (put i) value)
+
+abbrev pub set_variable : Desk → List ℕ → List ℕ → Result Desk Fault
 set_variable d number value = numbered 63 d (λ i n. with_variable i n d.env) (decimal_of number) (signed_of value)
 
-abbrev pub set_return : Desk → List ℕ → List ℕ → Carried
+abbrev pub set_return : Desk → List ℕ → List ℕ → Result Desk Fault
 set_return d number value = numbered 15 d (λ i n. with_return i n d.env) (decimal_of number) (decimal_of value)
 
-abbrev pub set_repeat : Desk → Part → List ℕ → List ℕ → Carried
+abbrev pub set_repeat : Desk → Part → List ℕ → List ℕ → Result Desk Fault
 set_repeat d p number value = numbered 7 d (λ i n. with_repeat p i n d.env) (decimal_of number) (decimal_of value)
 
-abbrev pub set_known : Desk → Field → List ℕ → Carried
+abbrev pub set_known : Desk → Field → List ℕ → Result Desk Fault
 set_known d f value = stored d (λ n. with_field f n d.env) (read_as (kind_of f) value)
 
-abbrev pub set_named : Desk → Found → List ℕ → Carried
-set_named d (Found.Is f) value = set_known d f value
-set_named d Found.Nothing value = wrong d NoField
+abbrev pub set_named : Desk → Option Field → List ℕ → Result Desk Fault
+set_named d (Some f) value = set_known d f value
+set_named d None value = Err NoField
 
 -- 86 is 'V', 83 'S', 66 'B', and 80 'P'
-unfoldable pub set_field : Desk → List ℕ → List ℕ → Carried
-set_field d [] value = wrong d NoField
+abbrev pub set_field : Desk → List ℕ → List ℕ → Result Desk Fault
+set_field d [] value = Err NoField
 set_field d (b ∷ bs) value =
     cond (eqb b 86) (set_variable d bs value)
     (cond (eqb b 83) (set_return d bs value)

@@ -1,12 +1,14 @@
 // Which command a line has, and whether it has the items that the command asks.
 ghost use Rattle.std.specs.Prelude.{◌≡◌, length};
 ghost use Rattle.text.specs.Items.{items};
-ghost use Rattle.desk.specs.Commands.{command_of, named as commandNamed, asked as asked_of, has as has_of};
+ghost use Rattle.desk.specs.Commands.{command_of, named as named_of, asked as asked_of, has as has_of};
 
-use crate::fault::{Fault, Outcome};
-use text::items::{count, item, place_in};
+use crate::fault::Fault;
+use crate::table::beside;
+use std::cmp::Ordering;
+use text::items::{count, item};
 
-#[derive(Clone, Copy)]
+#[derive(Clone, Copy, Debug, PartialEq, Eq)]
 pub enum Command {
     Nothing,
     Heading,
@@ -21,75 +23,65 @@ pub enum Command {
     Unknown,
 }
 
+const COMMANDS: [(&[u8], Command); 8] = [
+    (b"fresh", Command::Fresh),
+    (b"set", Command::Set),
+    (b"bytes", Command::Bytes),
+    (b"budget", Command::Budget),
+    (b"list", Command::List),
+    (b"run", Command::Run),
+    (b"lit", Command::Lit),
+    (b"check", Command::Check),
+];
+
 pub fn command_of(line: &[u8]) -> Command
     ensures { result ≡ command_of line.now }
 {
-    if line.len() == 0 {
+    let Some(first) = line.first() else {
         return Command::Nothing;
+    };
+    match *first {
+        b'#' => Command::Nothing,
+        b'=' => Command::Heading,
+        _ => named(item(line, 0)),
     }
-    if line[0] == b'#' {
-        return Command::Nothing;
-    }
-    if line[0] == b'=' {
-        return Command::Heading;
-    }
-    named(item(line, 0))
 }
 
-// The command of that name: each number is the place of a name.
 fn named(name: &[u8]) -> Command
-    ensures { result ≡ commandNamed name.now }
+    ensures { result ≡ named_of name.now }
 {
-    match place_in(b"fresh set bytes budget list run lit check", name) {
-        0 => Command::Fresh,
-        1 => Command::Set,
-        2 => Command::Bytes,
-        3 => Command::Budget,
-        4 => Command::List,
-        5 => Command::Run,
-        6 => Command::Lit,
-        7 => Command::Check,
-        _ => Command::Unknown,
-    }
+    beside(&COMMANDS, name).unwrap_or(Command::Unknown)
 }
 
 // Whether the line has as many items as its command asks.
-pub fn well_formed(line: &[u8], command: Command) -> Outcome
+pub fn well_formed(line: &[u8], command: Command) -> Result<(), Fault>
     ensures { result ≡ has_of (length (items line.now)) (asked_of command) }
 {
-    has(count(line), asked(command))
+    match asked(command) {
+        Some(asked) => has(count(line), asked),
+        None => Ok(()),
+    }
 }
 
-// How many items the command asks; 0 where it asks nothing.
-fn asked(command: Command) -> usize
+// How many items the command asks; none where it asks nothing.
+fn asked(command: Command) -> Option<usize>
     ensures { result ≡ asked_of command }
 {
     match command {
-        Command::Nothing => 0,
-        Command::Heading => 0,
-        Command::Fresh => 7,
-        Command::Set => 3,
-        Command::Bytes => 2,
-        Command::Budget => 2,
-        Command::List => 0,
-        Command::Run => 1,
-        Command::Lit => 3,
-        Command::Check => 1,
-        Command::Unknown => 0,
+        Command::Fresh => Some(7),
+        Command::Set | Command::Lit => Some(3),
+        Command::Bytes | Command::Budget => Some(2),
+        Command::Run | Command::Check => Some(1),
+        Command::Nothing | Command::Heading | Command::List | Command::Unknown => None,
     }
 }
 
-fn has(items: usize, asked: usize) -> Outcome
-    ensures { result ≡ has_of items asked }
+fn has(items: usize, asked: usize) -> Result<(), Fault>
+    ensures { result ≡ has_of items (Some asked) }
 {
-    if asked == 0 {
-        return Outcome::Fine;
+    match items.cmp(&asked) {
+        Ordering::Less => Err(Fault::Missing),
+        Ordering::Equal => Ok(()),
+        Ordering::Greater => Err(Fault::Extra),
     }
-    if items < asked {
-        return Outcome::Wrong(Fault::Missing);
-    }
-    if asked < items {
-        return Outcome::Wrong(Fault::Extra);
-    }
-    Outcome::Fine
 }

@@ -2,9 +2,10 @@
 ghost use Rattle.std.specs.Prelude.{◌≡◌};
 ghost use Rattle.desk.specs.Faults.{fault_of};
 
+use std::fmt;
 use text::number::Flaw;
 
-#[derive(Clone, Copy)]
+#[derive(Clone, Copy, Debug, PartialEq, Eq)]
 pub enum Fault {
     Unknown,
     Missing,
@@ -18,18 +19,31 @@ pub enum Fault {
     Unended,
 }
 
-#[derive(Clone, Copy)]
-pub enum Outcome {
-    Fine,
-    Wrong(Fault),
+impl fmt::Display for Fault {
+    fn fmt<W: fmt::Write>(&self, f: &mut fmt::Formatter<W>) -> fmt::Result {
+        f.write_str(match self {
+            Fault::Unknown => "unknown command",
+            Fault::Missing => "a word is missing",
+            Fault::Extra => "a word too many",
+            Fault::NoNumber => "not a decimal number",
+            Fault::Range => "a number out of its range",
+            Fault::NoField => "no field of that name",
+            Fault::NoWord => "not a word of four hexadecimal digits",
+            Fault::TooMany => "a list of more than 65537 words",
+            Fault::TooLong => "a line of more than 4096 bytes",
+            Fault::Unended => "no line feed at the end",
+        })
+    }
 }
 
 // What is wrong with a line whose number is wrong.
-pub fn fault_of(flaw: Flaw) -> Fault
-    ensures { result ≡ fault_of flaw }
-{
-    match flaw {
-        Flaw::Foreign => Fault::NoNumber,
-        Flaw::Large => Fault::Range,
+impl From<Flaw> for Fault {
+    ghost from_gives = { λ flaw fault. fault ≡ fault_of flaw };
+
+    fn from(flaw: Flaw) -> Fault {
+        match flaw {
+            Flaw::Foreign => Fault::NoNumber,
+            Flaw::Large => Fault::Range,
+        }
     }
 }

@@ -2,8 +2,8 @@
 ghost use Rattle.std.specs.Prelude.{◌≡◌};
 ghost use Rattle.desk.specs.Fields.{field_of, kind_of, kind_of_register, read_as};
 
-use text::items::place_in;
-use text::number::{Number, at_most, signed, unsigned};
+use crate::table::beside;
+use text::number::{Flaw, at_most, signed, unsigned};
 
 #[derive(Clone, Copy)]
 pub enum Field {
@@ -13,13 +13,6 @@ pub enum Field {
     Corner(Corner),
     Register(Register),
     Nesting,
-}
-
-// What a name stands for.
-#[derive(Clone, Copy)]
-pub enum Found {
-    Is(Field),
-    Nothing,
 }
 
 #[derive(Clone, Copy)]
@@ -66,39 +59,37 @@ pub enum Part {
     Left,
 }
 
-// The field of that name: each number is the place of a name.
-pub fn field_of(name: &[u8]) -> Found
+const FIELDS: [(&[u8], Field); 24] = [
+    (b"width", Field::Bound(Bound::Width)),
+    (b"height", Field::Bound(Bound::Height)),
+    (b"left", Field::Bound(Bound::Left)),
+    (b"top", Field::Bound(Bound::Top)),
+    (b"right", Field::Bound(Bound::Right)),
+    (b"bottom", Field::Bound(Bound::Bottom)),
+    (b"x", Field::Position(Axis::X)),
+    (b"y", Field::Position(Axis::Y)),
+    (b"ox", Field::Origin(Axis::X)),
+    (b"oy", Field::Origin(Axis::Y)),
+    (b"x0", Field::Corner(Corner::X0)),
+    (b"y0", Field::Corner(Corner::Y0)),
+    (b"x1", Field::Corner(Corner::X1)),
+    (b"y1", Field::Corner(Corner::Y1)),
+    (b"mode", Field::Register(Register::Mode)),
+    (b"pattern", Field::Register(Register::Pattern)),
+    (b"first", Field::Register(Register::First)),
+    (b"second", Field::Register(Register::Second)),
+    (b"counter", Field::Register(Register::Counter)),
+    (b"depth", Field::Register(Register::Depth)),
+    (b"place", Field::Register(Register::Place)),
+    (b"colour", Field::Register(Register::Colour)),
+    (b"state", Field::Register(Register::State)),
+    (b"nesting", Field::Nesting),
+];
+
+pub fn field_of(name: &[u8]) -> Option<Field>
     ensures { result ≡ field_of name.now }
 {
-    let names =
-        b"width height left top right bottom x y ox oy x0 y0 x1 y1 mode pattern first second counter depth place colour state nesting";
-    match place_in(names, name) {
-        0 => Found::Is(Field::Bound(Bound::Width)),
-        1 => Found::Is(Field::Bound(Bound::Height)),
-        2 => Found::Is(Field::Bound(Bound::Left)),
-        3 => Found::Is(Field::Bound(Bound::Top)),
-        4 => Found::Is(Field::Bound(Bound::Right)),
-        5 => Found::Is(Field::Bound(Bound::Bottom)),
-        6 => Found::Is(Field::Position(Axis::X)),
-        7 => Found::Is(Field::Position(Axis::Y)),
-        8 => Found::Is(Field::Origin(Axis::X)),
-        9 => Found::Is(Field::Origin(Axis::Y)),
-        10 => Found::Is(Field::Corner(Corner::X0)),
-        11 => Found::Is(Field::Corner(Corner::Y0)),
-        12 => Found::Is(Field::Corner(Corner::X1)),
-        13 => Found::Is(Field::Corner(Corner::Y1)),
-        14 => Found::Is(Field::Register(Register::Mode)),
-        15 => Found::Is(Field::Register(Register::Pattern)),
-        16 => Found::Is(Field::Register(Register::First)),
-        17 => Found::Is(Field::Register(Register::Second)),
-        18 => Found::Is(Field::Register(Register::Counter)),
-        19 => Found::Is(Field::Register(Register::Depth)),
-        20 => Found::Is(Field::Register(Register::Place)),
-        21 => Found::Is(Field::Register(Register::Colour)),
-        22 => Found::Is(Field::Register(Register::State)),
-        23 => Found::Is(Field::Nesting),
-        _ => Found::Nothing,
-    }
+    beside(&FIELDS, name)
 }
 
 // How a value is read.
@@ -113,12 +104,9 @@ fn kind_of(field: Field) -> Kind
     ensures { result ≡ kind_of field }
 {
     match field {
-        Field::Bound(_) => Kind::Unsigned,
-        Field::Position(_) => Kind::Signed,
-        Field::Origin(_) => Kind::Signed,
-        Field::Corner(_) => Kind::Signed,
+        Field::Bound(_) | Field::Nesting => Kind::Unsigned,
+        Field::Position(_) | Field::Origin(_) | Field::Corner(_) => Kind::Signed,
         Field::Register(register) => kind_of_register(register),
-        Field::Nesting => Kind::Unsigned,
     }
 }
 
@@ -126,24 +114,21 @@ fn kind_of_register(register: Register) -> Kind
     ensures { result ≡ kind_of_register register }
 {
     match register {
-        Register::Mode => Kind::Unsigned,
-        Register::Pattern => Kind::Unsigned,
-        Register::First => Kind::Signed,
-        Register::Second => Kind::Signed,
-        Register::Counter => Kind::Unsigned,
-        Register::Depth => Kind::Unsigned,
-        Register::Place => Kind::Unsigned,
-        Register::Colour => Kind::Byte,
-        Register::State => Kind::Byte,
+        Register::First | Register::Second => Kind::Signed,
+        Register::Colour | Register::State => Kind::Byte,
+        Register::Mode
+        | Register::Pattern
+        | Register::Counter
+        | Register::Depth
+        | Register::Place => Kind::Unsigned,
     }
 }
 
 // The value's bits.
-pub fn read_value(field: Field, value: &[u8]) -> Number
+pub fn read_value(field: Field, value: &[u8]) -> Result<u32, Flaw>
     ensures { result ≡ read_as (kind_of field) value.now }
 {
-    let kind = kind_of(field);
-    match kind {
+    match kind_of(field) {
         Kind::Unsigned => unsigned(value),
         Kind::Signed => signed(value),
         Kind::Byte => at_most(value, 255),

@@ -9,3 +9,4 @@ mod field; // the fields of the environment
 pub mod list; // reads a list
 pub mod set; // sets a field of the environment
 pub mod size; // the numbers of a fresh environment
+mod table; // what stands beside a name

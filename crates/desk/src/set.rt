@@ -1,178 +1,114 @@
 // Sets one field of the environment: 'set NAME VALUE'.
-ghost use Rattle.std.specs.Prelude.{◌≡◌};
-ghost use Rattle.desk.specs.Sets.{with_bound, with_axis, with_corner, with_register, with_field, with_part, set_variable, set_return, set_repeat, set_known, set_named, set_field};
-ghost use Rattle.desk.specs.Rooms.{WithinRooms};
+ghost use Rattle.std.specs.Prelude.{◌≡◌, ◌≤◌, IfOk};
+ghost use Rattle.text.specs.Number.{decimal_of};
+ghost use Rattle.desk.specs.Sets.{with_bound, with_axis, with_corner, with_register, with_field, with_part, up_to as up_to_of, set_variable, set_return, set_repeat, set_known, set_field};
 
-use crate::desk::{Carried, Desk, fine, with_env, wrong};
-use crate::fault::{Fault, fault_of};
-use crate::field::{Axis, Bound, Corner, Field, Found, Part, Register, field_of, read_value};
+use crate::desk::Desk;
+use crate::fault::Fault;
+use crate::field::{Axis, Bound, Corner, Field, Part, Register, field_of, read_value};
 use numbers::place::WordIndex;
 use numbers::value::to_signed;
 use raster::dots::Dot;
-use raster::frame::{Bounds, Window};
+use raster::frame::{Bounds, Pane, Window};
 use rules::environment::{Env, Registers, Repeat};
-use text::number::{Number, signed, unsigned};
+use text::number::{at_most, signed, unsigned};
 
-pub fn set_field(desk: Desk, name: &[u8], value: &[u8]) -> Carried
-    requires { WithinRooms desk }
-    ensures value { result ≡ set_field desk name.now value.now }
-    ensures within_rooms { WithinRooms result.desk }
+pub fn set_field(desk: Desk, name: &[u8], value: &[u8]) -> Result<Desk, Fault>
+    ensures { result ≡ set_field desk name.now value.now }
 {
-    if name.len() == 0 {
-        return wrong(desk, Fault::NoField);
-    }
-    if name[0] == b'V' {
-        return set_variable(desk, &name[1..], value);
-    }
-    if name[0] == b'S' {
-        return set_return(desk, &name[1..], value);
-    }
-    if name[0] == b'B' {
-        return set_repeat(desk, Part::Start, &name[1..], value);
-    }
-    if name[0] == b'P' {
-        return set_repeat(desk, Part::Left, &name[1..], value);
-    }
-    set_named(desk, field_of(name), value)
-}
-
-fn set_variable(desk: Desk, number: &[u8], value: &[u8]) -> Carried
-    requires { WithinRooms desk }
-    ensures value { result ≡ set_variable desk number.now value.now }
-    ensures within_rooms { WithinRooms result.desk }
-{
-    let Number::Is(i) = unsigned(number) else {
-        return wrong(desk, Fault::NoField);
+    let Some((letter, number)) = name.split_first() else {
+        return Err(Fault::NoField);
     };
-    if 63 < i {
-        return wrong(desk, Fault::NoField);
-    }
-    let read = signed(value);
-    match read {
-        Number::Is(bits) => {
-            let mut env = desk.env;
-            let at = i as usize;
-            env.variables[at] = bits;
-            fine(with_env(desk, env))
-        }
-        Number::Wrong(flaw) => wrong(desk, fault_of(flaw)),
+    match *letter {
+        b'V' => set_variable(desk, number, value),
+        b'S' => set_return(desk, number, value),
+        b'B' => set_repeat(desk, Part::Start, number, value),
+        b'P' => set_repeat(desk, Part::Left, number, value),
+        _ => set_known(desk, field_of(name).ok_or(Fault::NoField)?, value),
     }
 }
 
-fn set_return(desk: Desk, number: &[u8], value: &[u8]) -> Carried
-    requires { WithinRooms desk }
-    ensures value { result ≡ set_return desk number.now value.now }
-    ensures within_rooms { WithinRooms result.desk }
+fn set_variable(desk: Desk, number: &[u8], value: &[u8]) -> Result<Desk, Fault>
+    ensures { result ≡ set_variable desk number.now value.now }
 {
-    let Number::Is(i) = unsigned(number) else {
-        return wrong(desk, Fault::NoField);
-    };
-    if 15 < i {
-        return wrong(desk, Fault::NoField);
-    }
-    let read = unsigned(value);
-    match read {
-        Number::Is(index) => {
-            let mut env = desk.env;
-            let at = i as usize;
-            env.stack[at] = WordIndex(index);
-            fine(with_env(desk, env))
-        }
-        Number::Wrong(flaw) => wrong(desk, fault_of(flaw)),
-    }
+    let at = up_to(63, number)?;
+    let mut env = desk.env;
+    env.variables[at] = signed(value)?;
+    Ok(desk.with_env(env))
 }
 
-fn set_repeat(desk: Desk, part: Part, number: &[u8], value: &[u8]) -> Carried
-    requires { WithinRooms desk }
-    ensures value { result ≡ set_repeat desk part number.now value.now }
-    ensures within_rooms { WithinRooms result.desk }
+fn set_return(desk: Desk, number: &[u8], value: &[u8]) -> Result<Desk, Fault>
+    ensures { result ≡ set_return desk number.now value.now }
 {
-    let Number::Is(i) = unsigned(number) else {
-        return wrong(desk, Fault::NoField);
-    };
-    if 7 < i {
-        return wrong(desk, Fault::NoField);
-    }
-    let read = unsigned(value);
-    match read {
-        Number::Is(n) => {
-            let mut env = desk.env;
-            let at = i as usize;
-            let repeat = env.repeats[at];
-            env.repeats[at] = with_part(repeat, part, n);
-            fine(with_env(desk, env))
-        }
-        Number::Wrong(flaw) => wrong(desk, fault_of(flaw)),
+    let at = up_to(15, number)?;
+    let mut env = desk.env;
+    env.stack[at] = WordIndex(unsigned(value)?);
+    Ok(desk.with_env(env))
+}
+
+fn set_repeat(desk: Desk, part: Part, number: &[u8], value: &[u8]) -> Result<Desk, Fault>
+    ensures { result ≡ set_repeat desk part number.now value.now }
+{
+    let at = up_to(7, number)?;
+    let mut env = desk.env;
+    env.repeats[at] = with_part(env.repeats[at], part, unsigned(value)?);
+    Ok(desk.with_env(env))
+}
+
+// The number behind a field's letter: one above the last names no field.
+#[tactic(auto, unfolding(text::specs::Number::at_most))]
+fn up_to(last: u32, number: &[u8]) -> Result<usize, Fault>
+    ensures value { result ≡ up_to_of last (decimal_of number.now) }
+    ensures upper_bound { IfOk result (λ at. at ≤ last) }
+{
+    match at_most(number, last) {
+        Ok(at) => Ok(at as usize),
+        Err(_) => Err(Fault::NoField),
     }
 }
 
 fn with_part(repeat: Repeat, part: Part, n: u32) -> Repeat
     ensures { result ≡ with_part part n repeat }
 {
-    let mut after = repeat;
-    let index = WordIndex(n);
     match part {
-        Part::Start => after.start = index,
-        Part::Left => after.left = n,
-    }
-    after
-}
-
-fn set_named(desk: Desk, found: Found, value: &[u8]) -> Carried
-    requires { WithinRooms desk }
-    ensures value { result ≡ set_named desk found value.now }
-    ensures within_rooms { WithinRooms result.desk }
-{
-    match found {
-        Found::Is(field) => set_known(desk, field, value),
-        Found::Nothing => wrong(desk, Fault::NoField),
+        Part::Start => Repeat {
+            start: WordIndex(n),
+            ..repeat
+        },
+        Part::Left => Repeat { left: n, ..repeat },
     }
 }
 
-fn set_known(desk: Desk, field: Field, value: &[u8]) -> Carried
-    requires { WithinRooms desk }
-    ensures value { result ≡ set_known desk field value.now }
-    ensures within_rooms { WithinRooms result.desk }
+fn set_known(desk: Desk, field: Field, value: &[u8]) -> Result<Desk, Fault>
+    ensures { result ≡ set_known desk field value.now }
 {
-    let read = read_value(field, value);
-    match read {
-        Number::Is(bits) => {
-            let env = desk.env;
-            fine(with_env(desk, with_field(env, field, bits)))
-        }
-        Number::Wrong(flaw) => wrong(desk, fault_of(flaw)),
-    }
+    let bits = read_value(field, value)?;
+    Ok(desk.with_env(with_field(desk.env, field, bits)))
 }
 
 fn with_field(env: Env, field: Field, bits: u32) -> Env
     ensures { result ≡ with_field field bits env }
 {
     let mut after = env;
-    let mut registers = env.registers;
+    let registers = &mut after.registers;
     match field {
-        Field::Bound(bound) => {
-            let bounds = with_bound(env.bounds, bound, bits);
-            after.bounds = bounds;
-        }
-        Field::Position(axis) => {
-            let position = with_axis(registers.position, axis, to_signed(bits));
-            registers.position = position;
-            after.registers = registers;
-        }
-        Field::Origin(axis) => {
-            let origin = with_axis(registers.origin, axis, to_signed(bits));
-            registers.origin = origin;
-            after.registers = registers;
-        }
-        Field::Corner(corner) => {
-            let window = with_corner(registers.window, corner, to_signed(bits));
-            registers.window = window;
-            after.registers = registers;
-        }
-        Field::Register(register) => {
-            registers = with_register(registers, register, bits);
-            after.registers = registers;
-        }
+        Field::Bound(bound) => after.bounds = with_bound(env.bounds, bound, bits),
+        Field::Position(axis) => registers.position = with_axis(
+            registers.position,
+            axis,
+            to_signed(bits),
+        ),
+        Field::Origin(axis) => registers.origin = with_axis(
+            registers.origin,
+            axis,
+            to_signed(bits),
+        ),
+        Field::Corner(corner) => registers.window = with_corner(
+            registers.window,
+            corner,
+            to_signed(bits),
+        ),
+        Field::Register(register) => *registers = with_register(*registers, register, bits),
         Field::Nesting => after.nesting = bits,
     }
     after
@@ -181,42 +117,53 @@ fn with_field(env: Env, field: Field, bits: u32) -> Env
 fn with_bound(bounds: Bounds, bound: Bound, n: u32) -> Bounds
     ensures { result ≡ with_bound bound n bounds }
 {
-    let mut after = bounds;
+    let pane = bounds.pane;
     match bound {
-        Bound::Width => after.width = n,
-        Bound::Height => after.height = n,
-        Bound::Left => after.pane.left = n,
-        Bound::Top => after.pane.top = n,
-        Bound::Right => after.pane.right = n,
-        Bound::Bottom => after.pane.bottom = n,
+        Bound::Width => Bounds { width: n, ..bounds },
+        Bound::Height => Bounds {
+            height: n,
+            ..bounds
+        },
+        Bound::Left => Bounds {
+            pane: Pane { left: n, ..pane },
+            ..bounds
+        },
+        Bound::Top => Bounds {
+            pane: Pane { top: n, ..pane },
+            ..bounds
+        },
+        Bound::Right => Bounds {
+            pane: Pane { right: n, ..pane },
+            ..bounds
+        },
+        Bound::Bottom => Bounds {
+            pane: Pane { bottom: n, ..pane },
+            ..bounds
+        },
     }
-    after
 }
 
 fn with_axis(dot: Dot, axis: Axis, z: i32) -> Dot
     ensures { result ≡ with_axis axis z dot }
 {
-    let mut after = dot;
     match axis {
-        Axis::X => after.x = z,
-        Axis::Y => after.y = z,
+        Axis::X => Dot { x: z, ..dot },
+        Axis::Y => Dot { y: z, ..dot },
     }
-    after
 }
 
 fn with_corner(window: Window, corner: Corner, z: i32) -> Window
     ensures { result ≡ with_corner corner z window }
 {
-    let mut after = window;
     match corner {
-        Corner::X0 => after.x0 = z,
-        Corner::Y0 => after.y0 = z,
-        Corner::X1 => after.x1 = z,
-        Corner::Y1 => after.y1 = z,
+        Corner::X0 => Window { x0: z, ..window },
+        Corner::Y0 => Window { y0: z, ..window },
+        Corner::X1 => Window { x1: z, ..window },
+        Corner::Y1 => Window { y1: z, ..window },
     }
-    after
 }
 
+// Colour and state are bytes.
 fn with_register(registers: Registers, register: Register, bits: u32) -> Registers
     ensures { result ≡ with_register register bits registers }
 {

@@ -1,12 +1,9 @@
 -- The word is put where there is room for it.
-use mathlib.Core.Path.{◌∙◌}
-use native.Mathlib.Omega.{arith}
-use Rattle.desk.proofs.Listing.{refusal, refused_none, too_many, puts}
+use Rattle.std.proofs.Common.{◌≡◌, ◌+◌, ◌-◌, replicate, rules}
+use Rattle.desk.proofs.Listing.{puts}
 use Rattle.desk.proofs.list.put.Goals as goal
 
-pub returns-then-room-words : goal.returns-then-room-words
-returns-then-room-words c = record { room_after = refusal _ c.wrong.ensures ∙ too_many _ _ _ _ c.if-room-words.true; words_in_bounds = refused_none c.wrong.ensures }
-
-pub returns : goal.returns
-returns c =
-    record { room_after = puts _ _ _ _ c.if-room-words.false c.fill.ensures; words_in_bounds = omega (arith, c.if-room-words.false, c.requires) }
+pub returns-clause-room_after : goal.returns-clause-room_after
+returns-clause-room_after c =
+    let e : c.fill.new.self ≡ replicate (c.args.words + c.args.times - c.args.words) c.args.word = search rules in
+    puts c.args.times c.args.word c.args.room.now c.args.words c.if-room-words.false c.requires e

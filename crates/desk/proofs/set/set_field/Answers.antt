@@ -1,33 +1,31 @@
--- By the name's first byte.
-use mathlib.Core.Path.{ap, ◌∙◌}
-use Rattle.desk.specs.declared.field.Found.{Found}
+-- By the name's first byte, else by the whole name.
+use Rattle.std.proofs.Common.{◌≡◌, ◌∙◌, arith, rules}
+use Rattle.desk.specs.Fields.{field_of}
 use Rattle.desk.specs.Sets.{set_named}
-use Rattle.desk.proofs.Setting.{no_name, a-variable, a-return, a-start, a-left, a-name}
+use Rattle.desk.proofs.Letters.{no_name, lettered, no-letter}
 use Rattle.desk.proofs.set.set_field.Goals as goal
 
-pub returns-then-name-eq0 : goal.returns-then-name-eq0
-returns-then-name-eq0 c = record { value = c.wrong.ensures.value ∙ no_name _ _ _ c.if-name-eq0.true; within_rooms = c.wrong.ensures.within_rooms }
+pub returns-in_default : goal.returns-in_default
+returns-in_default c = no_name _ _ _ c.in_default.ensures.cases
 
-pub returns-then-name-eq86 : goal.returns-then-name-eq86
-returns-then-name-eq86 c =
-    record { value = c.set_variable.ensures.value ∙ a-variable _ _ _ c.if-name-eq0.false c.if-name-eq86.true; within_rooms = c.set_variable.ensures.within_rooms }
+pub returns-in-86 : goal.returns-in-86
+returns-in-86 c = c.set_variable.ensures ∙ lettered _ _ _ c.in-Some.ensures.cases.0 86 c.in-86.is
 
-pub returns-then-name-eq83 : goal.returns-then-name-eq83
-returns-then-name-eq83 c =
-    record { value = c.set_return.ensures.value ∙ a-return _ _ _ c.if-name-eq0.false c.if-name-eq86.false c.if-name-eq83.true; within_rooms = c.set_return.ensures.within_rooms }
+pub returns-in-83 : goal.returns-in-83
+returns-in-83 c = c.set_return.ensures ∙ lettered _ _ _ c.in-Some.ensures.cases.0 83 c.in-83.is
 
-pub returns-then-name-eq66 : goal.returns-then-name-eq66
-returns-then-name-eq66 c =
-    record { value = c.set_repeat.ensures.value ∙ a-start _ _ _ c.if-name-eq0.false c.if-name-eq86.false c.if-name-eq83.false c.if-name-eq66.true; within_rooms = c.set_repeat.ensures.within_rooms }
+pub returns-in-66 : goal.returns-in-66
+returns-in-66 c = c.set_repeat.ensures ∙ lettered _ _ _ c.in-Some.ensures.cases.0 66 c.in-66.is
 
-pub returns-then-name-eq80 : goal.returns-then-name-eq80
-returns-then-name-eq80 c =
-    record { value = c.set_repeat-then-name-eq80.ensures.value ∙ a-left _ _ _ c.if-name-eq0.false c.if-name-eq86.false c.if-name-eq83.false c.if-name-eq66.false c.if-name-eq80.true; within_rooms = c.set_repeat-then-name-eq80.ensures.within_rooms }
+pub returns-in-80 : goal.returns-in-80
+returns-in-80 c = c.set_repeat-in-80.ensures ∙ lettered _ _ _ c.in-Some.ensures.cases.0 80 c.in-80.is
 
-pub returns : goal.returns
-returns c =
-    record {
-      value = c.set_named.ensures.value ∙ ap (λ (x : Found). set_named c.args.desk x c.args.value.now) c.field_of.ensures
-          ∙ a-name _ _ _ c.if-name-eq0.false c.if-name-eq86.false c.if-name-eq83.false c.if-name-eq66.false c.if-name-eq80.false;
-      within_rooms = c.set_named.ensures.within_rooms;
-    }
+pub returns-in_err-ok_or-in_default-letter : goal.returns-in_err-ok_or-in_default-letter
+returns-in_err-ok_or-in_default-letter c =
+    let e : c.from_residual.result ≡ set_named c.args.desk (field_of c.args.name.now) c.args.value.now = search rules in
+    e ∙ no-letter _ _ _ c.in-Some.ensures.cases.0 (λ e. omega arith) (λ e. omega arith) (λ e. omega arith) (λ e. omega arith)
+
+pub returns-in_ok-ok_or-in_default-letter : goal.returns-in_ok-ok_or-in_default-letter
+returns-in_ok-ok_or-in_default-letter c =
+    let e : c.set_known.result ≡ set_named c.args.desk (field_of c.args.name.now) c.args.value.now = search rules in
+    e ∙ no-letter _ _ _ c.in-Some.ensures.cases.0 (λ e. omega arith) (λ e. omega arith) (λ e. omega arith) (λ e. omega arith)
