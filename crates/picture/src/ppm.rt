@@ -7,7 +7,7 @@ ghost use Rattle.io.specs.Counts.{IsPrefixLen};
 use crate::palette::colour_of;
 use text::join::put_whole;
 
-// Puts three bytes for each dot into the room, as many as fit, and answers where they end.
+// Puts three bytes for each dot into the room, as many as fit, and answers where they end: a count, which cannot fail.
 pub fn put_colours(dots: &[u8], room: &mut [u8]) -> usize
     ensures value { result ≡ length (painted (take (length room.old / 3) dots.now)) }
     ensures room_after { room.new ≡ sets room.old 0 (painted (take (length room.old / 3) dots.now)) }

@@ -10,7 +10,7 @@ use brush::Brush;
 use numbers::place::WordIndex;
 
 // What a call comes back with, and what a refusal says: a number of document 01's table and, with 20 to 29, the index of the
-// word at fault. All other numbers carry 0. No enum: C is told the number, and the rules and what is proved of them speak of it.
+// word at fault. All other numbers carry 0. A number, as C and the rules have it; `refusal` has the names.
 #[derive(Clone, Copy, Debug, PartialEq, Eq)]
 pub struct Verdict {
     pub number: u8,

@@ -61,7 +61,7 @@ fn read_lines(text: &[u8]) -> Option<Block>
     })
 }
 
-// One block more, behind the bytes in use: any record, any numbers.
+// One block more, behind the bytes in use: any record, any numbers, each by itself as C gives it.
 pub fn append(lines: &mut [u8], used: usize, budget: u64, answer: u64, steps: u64) -> Recorded
     ensures { Promise lines.old used budget answer steps result lines.new }
 {

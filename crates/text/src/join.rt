@@ -1,4 +1,4 @@
-// Texts put together in a lent room.
+// Texts put together in a lent room. A room and the place in it stay two parameters: the place alone goes on from put to put.
 ghost use Rattle.std.specs.Prelude.{◌≡◌, ◌+◌, ◌-◌, ◌≤◌, min, length};
 ghost use Rattle.std.proofs.lemmas.List.Edits.{sets};
 ghost use Rattle.text.specs.Puts.{Puts};
