@@ -19,16 +19,13 @@ returns-then-words-at c b =
     ap (λ v. seen (Err v) (look b g.registers.now g.vars.now g.stack.now)) c.refused.ensures ∙ step-20 c.requires c.if-words-at.true b
 
 pub step-requires : goal.step-requires
-step-requires c = (reaches c.requires c.if-words-at.false, stacked c.requires)
-
-pub step-requires-in-Value : goal.step-requires-in-Value
-step-requires-in-Value c = reaches c.requires c.if-words-at.false
-
-pub step-requires-in-Pen : goal.step-requires-in-Pen
-step-requires-in-Pen c = reaches c.requires c.if-words-at.false
+step-requires c = stacked c.requires
 
 pub step-requires-in-Paint : goal.step-requires-in-Paint
-step-requires-in-Paint c = (reaches c.requires c.if-words-at.false, positioned c.requires)
+step-requires-in-Paint c = positioned c.requires
+
+pub invariant_of-here : goal.invariant_of-here
+invariant_of-here c = record { reaches = reaches c.requires c.if-words-at.false }
 
 pub returns-in-Unknown : goal.returns-in-Unknown
 returns-in-Unknown c b =

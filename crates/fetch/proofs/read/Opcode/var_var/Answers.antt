@@ -4,7 +4,7 @@ use native.Mathlib.Omega.{arith}
 use Rattle.numbers.proofs.Places.{is-above, not-above}
 use Rattle.std.specs.Prelude.{Err}
 use Rattle.fetch.proofs.Taking.{short, onto, over_first, next-over}
-use Rattle.fetch.proofs.source.var_var.Goals as goal
+use Rattle.fetch.proofs.read.Opcode.var_var.Goals as goal
 
 pub returns-then-left-lt3 : goal.returns-then-left-lt3
 returns-then-left-lt3 c = (ap Err c.cut.ensures ∙ short _ _ _ _ (omega arith), tt)
@@ -21,4 +21,4 @@ pub returns : goal.returns
 returns c =
     let a = c.args in
     let low = not-above _ 1 (sym c.above.ensures ∙ c.if-above.false) in
-    (c.onto.ensures.0 ∙ onto _ _ _ _ (omega arith) _ _ (omega arith) (omega (arith, low)) (λ h. next-over a.words.now a.pc.0 c.named-s.ensures (omega (arith, low)) h) (cc) refl, c.onto.ensures.1)
+    (c.onto.ensures.0 ∙ onto _ _ _ _ (omega arith) _ _ (omega arith) (omega (arith, low)) (λ h. next-over a.self.words.now a.self.pc.0 c.named-s.ensures (omega (arith, low)) h) (cc) refl, c.onto.ensures.1)

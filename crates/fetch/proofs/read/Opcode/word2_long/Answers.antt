@@ -1,13 +1,13 @@
--- `word_long`: the values in their order.
+-- `word2_long`: the values in their order.
 use mathlib.Core.Path.{ap, refl, ◌∙◌}
 use native.Mathlib.Omega.{arith}
 use borrow.Author.Rules.{rules}
 use Rattle.std.specs.Prelude.{Ok, Err}
 use Rattle.fetch.proofs.Taking.{short, three}
-use Rattle.fetch.proofs.source.word_long.Goals as goal
+use Rattle.fetch.proofs.read.Opcode.word2_long.Goals as goal
 
-pub returns-then-left-lt4 : goal.returns-then-left-lt4
-returns-then-left-lt4 c vs = ap Err c.cut.ensures ∙ short _ _ _ vs (omega arith)
+pub returns-then-left-lt5 : goal.returns-then-left-lt5
+returns-then-left-lt5 c vs = ap Err c.cut.ensures ∙ short _ _ _ vs (omega arith)
 
 pub returns : goal.returns
 returns c vs = ap Ok c.values.ensures ∙ three _ _ _ vs (omega arith) (omega arith) (search rules) refl (omega arith)

@@ -4,7 +4,7 @@ use native.Mathlib.Omega.{arith}
 use borrow.Author.Rules.{rules}
 use Rattle.std.specs.Prelude.{Ok, Err}
 use Rattle.fetch.proofs.Taking.{short, three}
-use Rattle.fetch.proofs.source.long.Goals as goal
+use Rattle.fetch.proofs.read.Opcode.long.Goals as goal
 
 pub returns-then-left-lt3 : goal.returns-then-left-lt3
 returns-then-left-lt3 c vs = ap Err c.cut.ensures ∙ short _ _ _ vs (omega arith)

@@ -4,7 +4,7 @@ use native.Mathlib.Omega.{arith}
 use Rattle.numbers.proofs.Places.{not-above}
 use Rattle.std.specs.Prelude.{Err}
 use Rattle.fetch.proofs.Taking.{above, below}
-use Rattle.fetch.proofs.source.onto.Goals as goal
+use Rattle.fetch.proofs.read.Opcode.onto.Goals as goal
 
 pub returns-then-above : goal.returns-then-above
 returns-then-above c =

@@ -1,10 +1,10 @@
--- `long_word`: the values in their order.
+-- `word_long`: the values in their order.
 use mathlib.Core.Path.{ap, refl, ◌∙◌}
 use native.Mathlib.Omega.{arith}
 use borrow.Author.Rules.{rules}
 use Rattle.std.specs.Prelude.{Ok, Err}
 use Rattle.fetch.proofs.Taking.{short, three}
-use Rattle.fetch.proofs.source.long_word.Goals as goal
+use Rattle.fetch.proofs.read.Opcode.word_long.Goals as goal
 
 pub returns-then-left-lt4 : goal.returns-then-left-lt4
 returns-then-left-lt4 c vs = ap Err c.cut.ensures ∙ short _ _ _ vs (omega arith)

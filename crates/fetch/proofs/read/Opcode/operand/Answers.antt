@@ -2,7 +2,7 @@
 use mathlib.Core.Path.{sym, ◌∙◌}
 use native.Mathlib.Omega.{arith}
 use Rattle.fetch.proofs.Taking.{nth-word, past_words}
-use Rattle.fetch.proofs.read.operand.Goals as goal
+use Rattle.fetch.proofs.read.Opcode.operand.Goals as goal
 
 pub returns-then-n-k : goal.returns-then-n-k
 returns-then-n-k c vs = sym (past_words _ _ _ _ vs _ c.if-n-k.true)

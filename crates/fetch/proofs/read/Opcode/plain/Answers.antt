@@ -3,7 +3,7 @@ use mathlib.Core.Path.{ap, ◌∙◌}
 use native.Mathlib.Omega.{arith}
 use Rattle.std.specs.Prelude.{Err}
 use Rattle.fetch.proofs.Taking.{all_words, no-variable, no-destination, short, fine}
-use Rattle.fetch.proofs.source.plain.Goals as goal
+use Rattle.fetch.proofs.read.Opcode.plain.Goals as goal
 
 pub returns-then-left-n : goal.returns-then-left-n
 returns-then-left-n c vs = ap Err c.cut.ensures ∙ short _ _ _ vs (rw all_words (omega arith))

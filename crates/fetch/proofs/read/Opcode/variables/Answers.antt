@@ -4,7 +4,7 @@ use native.Mathlib.Omega.{arith}
 use Rattle.numbers.proofs.Places.{is-above, not-above}
 use Rattle.std.specs.Prelude.{Err}
 use Rattle.fetch.proofs.Taking.{short, over_first, from-variable}
-use Rattle.fetch.proofs.source.variables.Goals as goal
+use Rattle.fetch.proofs.read.Opcode.variables.Goals as goal
 
 pub returns-then-left-lt2 : goal.returns-then-left-lt2
 returns-then-left-lt2 c = ap Err c.cut.ensures ∙ short _ _ _ _ (omega arith)
