@@ -1,5 +1,5 @@
 // Where a list of a page is looked for, and what a message about a page names.
-ghost use Rattle.std.specs.Prelude.{◌≡◌, suc, ◌^◌, ◌<◌, min, length, if◌then◌else◌, nat_eq};
+ghost use Rattle.std.specs.Prelude.{◌≡◌, ◌≢◌, ◌<◌, ℕ, min, length, slice_index, MatchOption};
 ghost use Rattle.std.proofs.lemmas.List.Edits.{sets};
 ghost use Rattle.errand.specs.Paths.{behind_slash, from_top, folder_for, beside_of};
 
@@ -20,49 +20,38 @@ fn folder<'a>(page: &'a [u8], name: &[u8]) -> &'a [u8]
     ensures { result.now ≡ folder_for page.now name.now }
 {
     if is_from_top(name) {
-        return &page[..0];
+        &page[..0]
+    } else {
+        &page[..behind_slash(page)]
     }
-    let n = behind_slash(page);
-    &page[..n]
 }
 
 fn is_from_top(name: &[u8]) -> bool
     ensures { result ≡ from_top name.now }
 {
-    if name.len() == 0 {
-        return false;
-    }
-    name[0] == b'/'
+    !name.is_empty() && name[0] == b'/'
 }
 
 // The place behind the last '/'; 0 where there is none.
 fn behind_slash(path: &[u8]) -> usize
     ensures { result ≡ behind_slash 0 0 path.now }
 {
-    let mut found = 0;
-    let mut i = 0;
-    while i < path.len() {
-        found = behind(path[i], i, found);
-        i += 1;
+    match last_slash(path) {
+        Some(i) => i + 1,
+        None => 0,
     }
-    found
 }
 
-// Behind byte i where that is a '/', else where it was found before.
-fn behind(byte: u8, i: usize, found: usize) -> usize
-    requires { suc i < 2 ^ 64 }
-    ensures { result ≡ (if nat_eq byte 47 then suc i else found) }
+fn last_slash(path: &[u8]) -> Option<usize>
+    ensures { MatchOption result ((k : ℕ) → k < length path.now → slice_index path.now k ≢ 47) (λ i. i < length path.now × slice_index path.now i ≡ 47 × ((k : ℕ) → i < k → k < length path.now → slice_index path.now k ≢ 47)) }
 {
-    if byte == b'/' {
-        return i + 1;
-    }
-    found
+    path.iter().rposition(|byte| *byte == b'/')
 }
 
 // Puts PAGE:LINE into the room, as far as it fits, and answers where it ends.
 pub fn place(page: &[u8], line: u32, room: &mut [u8]) -> usize {
     let mut digits = [0u8; 20];
-    let n = io::decimal(line as u64, &mut digits);
+    let n = io::decimal(u64::from(line), &mut digits);
     let colon = put(page, room, 0);
     let number = put(b":", room, colon);
     put(&digits[..n], room, number)

@@ -1,21 +1,32 @@
-// Numbers, to standard output or standard error.
-use errand::say::say;
+// Words and word indices, as sources have them: in hexadecimal.
 use numbers::place::WordIndex;
+use std::fmt;
 use text::hexadecimal::digits_of;
 
-pub fn decimal(to: &impl Print, n: u32) {
-    let _ = to.print(n);
-}
+// A word by its four digits.
+#[derive(Clone, Copy)]
+pub struct Word(pub u16);
 
-pub fn hexadecimal(to: &impl Print, word: u16) {
-    let digits = digits_of(word);
-    say(to, &digits);
-}
-
-// A word index, 0 to 65,536, as sources have it.
-pub fn index(to: &impl Print, i: WordIndex) {
-    if 65535 < i.0 {
-        say(to, b"1");
+impl fmt::Display for Word {
+    fn fmt<W: fmt::Write>(&self, f: &mut fmt::Formatter<W>) -> fmt::Result {
+        for digit in digits_of(self.0) {
+            f.write_char(char::from(digit))?;
+        }
+        Ok(())
     }
-    hexadecimal(to, (i.0 % 65536) as u16);
+}
+
+// A word index, 0 to 65,536.
+#[derive(Clone, Copy)]
+pub struct Index(pub WordIndex);
+
+impl fmt::Display for Index {
+    fn fmt<W: fmt::Write>(&self, f: &mut fmt::Formatter<W>) -> fmt::Result {
+        let i = self.0.0;
+        if 65535 < i {
+            f.write_char('1')?;
+        }
+        let word = Word((i % 65536) as u16);
+        write!(f, "{word}")
+    }
 }
