@@ -1,6 +1,7 @@
 // Where a list of a page is looked for, and what a message about a page names.
 ghost use Rattle.std.specs.Prelude.{◌≡◌, ◌≢◌, ◌<◌, ℕ, min, length, slice_index, MatchOption};
 ghost use Rattle.std.proofs.lemmas.List.Edits.{sets};
+ghost use Rattle.io.specs.Counts.{IsPrefixLen};
 ghost use Rattle.errand.specs.Paths.{behind_slash, from_top, folder_for, beside_of};
 
 use text::join::put;
@@ -10,6 +11,7 @@ use text::join::put;
 pub fn beside(page: &[u8], name: &[u8], room: &mut [u8]) -> usize
     ensures value { result ≡ min (length (beside_of page.now name.now)) (length room.old) }
     ensures room_after { room.new ≡ sets room.old 0 (beside_of page.now name.now) }
+    ensures prefix_len { IsPrefixLen result room.new }
 {
     let at = put(folder(page, name), room, 0);
     put(name, room, at)
@@ -49,7 +51,9 @@ fn last_slash(path: &[u8]) -> Option<usize>
 }
 
 // Puts PAGE:LINE into the room, as far as it fits, and answers where it ends.
-pub fn place(page: &[u8], line: u32, room: &mut [u8]) -> usize {
+pub fn place(page: &[u8], line: u32, room: &mut [u8]) -> usize
+    ensures { IsPrefixLen result room.new }
+{
     let mut digits = [0u8; 20];
     let n = io::decimal(u64::from(line), &mut digits);
     let colon = put(page, room, 0);
@@ -58,7 +62,9 @@ pub fn place(page: &[u8], line: u32, room: &mut [u8]) -> usize {
 }
 
 // Puts PLACE: NAME into the room, as far as it fits, and answers where it ends.
-pub fn label(place: &[u8], name: &[u8], room: &mut [u8]) -> usize {
+pub fn label(place: &[u8], name: &[u8], room: &mut [u8]) -> usize
+    ensures { IsPrefixLen result room.new }
+{
     let colon = put(place, room, 0);
     let at = put(b": ", room, colon);
     put(name, room, at)
