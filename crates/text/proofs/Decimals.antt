@@ -76,9 +76,6 @@ more-wide n h = ap length (long n h) ∙ length-append (decimal (n / 10)) ((48 +
 pub few-digits : (n : ℕ) → length (decimal n) ≤ n + 1
 few-digits = by-tenths (λ n. length (decimal n) ≤ n + 1) (λ n h. omega (arith, one-wide n h)) (λ n h later. omega (arith, more-wide n h, less n h, later))
 
-pub some-digit : (n : ℕ) → 1 ≤ length (decimal n)
-some-digit = by-tenths (λ n. 1 ≤ length (decimal n)) (λ n h. omega (arith, one-wide n h)) (λ n h later. omega (arith, more-wide n h))
-
 -- ---- how they are put
 module _ {l : List ℕ} {at : ℕ} (n : ℕ) where
   pub put_one : n < 10 → Puts (decimal n) l at (set l at (48 + n)) (at + 1)

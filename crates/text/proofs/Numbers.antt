@@ -1,8 +1,8 @@
 -- A number has one text without leading zeros: what is written is read back, and what is read was written so.
-use Rattle.std.proofs.Common.{◌≡◌, ℕ, ◌+◌, ◌/◌, ◌%◌, ◌<◌, ◌≤◌, Bool, true, false, cond, ◌&&◌, eqb, ltb, List, [], ◌∷◌, ◌++◌, length, get_or, sym, refl, ap, ◌∙◌, subst, ap₂, append_assoc, append-nil, arith, ltb-false, le-ltb, lt-ltb, eq-eqb, ne_eqb, eqb-true, le-leb}
+use Rattle.std.proofs.Common.{◌≡◌, ℕ, Result, Ok, Err, ◌+◌, ◌/◌, ◌%◌, ◌<◌, ◌≤◌, Bool, true, false, cond, ◌&&◌, eqb, ltb, List, [], ◌∷◌, ◌++◌, length, get_or, take, sym, refl, ap, ◌∙◌, subst, ap₂, append_assoc, append-nil, arith, ltb-false, le-ltb, lt-ltb, eq-eqb, ne_eqb, eqb-true, le-leb}
 use borrow.Author.Tests.{eqb-false}
-use Rattle.text.specs.declared.number.Number.{Number}
-use Rattle.text.specs.declared.number.Number.TheVariants.{Is, Wrong}
+use Rattle.std.specs.Cmp.Lexicographic.{pointwise}
+use Rattle.text.specs.declared.number.Flaw.{Flaw}
 use Rattle.text.specs.declared.number.Flaw.TheVariants.{Foreign, Large}
 use Rattle.text.specs.Number.{limit, digit, with_digit, reading, decimal_of, unpadded_of}
 use Rattle.text.specs.Decimal.{decimal}
@@ -13,8 +13,8 @@ use Rattle.text.proofs.Decimals.{tens, by-tenths, short, long, one-wide, more-wi
 
 -- ---- by the tests
 module _ (s : List ℕ) where
-  abbrev by : Bool → Number
-  by t = cond t (Wrong Foreign) (decimal_of s)
+  abbrev by : Bool → Result ℕ Flaw
+  by t = cond t (Err Foreign) (decimal_of s)
 
   is-by : (t : Bool) → (eqb (get_or s 0 0) 48 && ltb 1 (length s)) ≡ t → by t ≡ unpadded_of s
   unfolding unpadded_of
@@ -27,11 +27,29 @@ module _ (s : List ℕ) where
   pub lone : length s < 2 → decimal_of s ≡ unpadded_of s
   lone h = is-by false (ap (λ (x : Bool). eqb (get_or s 0 0) 48 && x) (le-ltb 1 (length s) (omega arith)) ∙ never (eqb (get_or s 0 0) 48))
 
-  pub zero-leads : 2 ≤ length s → get_or s 0 0 ≡ 48 → Wrong Foreign ≡ unpadded_of s
+  pub zero-leads : 2 ≤ length s → get_or s 0 0 ≡ 48 → Err Foreign ≡ unpadded_of s
   zero-leads h e = is-by true (ap₂ (λ (x y : Bool). x && y) (eq-eqb (get_or s 0 0) 48 e) (lt-ltb 1 (length s) h))
 
   pub no-zero-leads : (get_or s 0 0 ≡ 48 → ⊥) → decimal_of s ≡ unpadded_of s
   no-zero-leads n = is-by false (ap (λ (x : Bool). x && ltb 1 (length s)) (ne_eqb (get_or s 0 0) 48 n))
+
+  pub leads-zero : 2 ≤ length s → pointwise eqb (48 ∷ []) (take 1 s) ≡ true → Err Foreign ≡ unpadded_of s
+  leads-zero l h = zero-leads l (led s h)
+    where
+      led : (s : List ℕ) → pointwise eqb (48 ∷ []) (take 1 s) ≡ true → get_or s 0 0 ≡ 48
+      led [] h = absurd (cc)
+      led (b ∷ bs) h = go (eqb 48 b) refl h
+        where
+          go : (t : Bool) → eqb 48 b ≡ t → (t && true) ≡ true → b ≡ 48
+          go true e h = sym (eqb-true 48 b e)
+          go false e h = absurd (cc)
+
+  pub leads_no-zero : 2 ≤ length s → pointwise eqb (48 ∷ []) (take 1 s) ≡ false → decimal_of s ≡ unpadded_of s
+  leads_no-zero l h = no-zero-leads (other s l h)
+    where
+      other : (s : List ℕ) → 2 ≤ length s → pointwise eqb (48 ∷ []) (take 1 s) ≡ false → get_or s 0 0 ≡ 48 → ⊥
+      other [] l h e = absurd (omega arith)
+      other (b ∷ bs) l h e = let same : eqb 48 b ≡ true = eq-eqb 48 b (sym e) in cc
 
 -- ---- a digit, and none of the digits is a line feed
 is_digit : (d : ℕ) → d < 10 → digit (48 + d) ≡ true
@@ -111,7 +129,7 @@ begins = by-tenths Begins one more
         }
 
 -- with or without leading zeros
-any-zeros : (n : ℕ) → n ≤ limit → decimal_of (decimal n) ≡ Is n
+any-zeros : (n : ℕ) → n ≤ limit → decimal_of (decimal n) ≡ Ok n
 unfolding decimal_of reading
 any-zeros n h =
     let b = begins n in
@@ -123,7 +141,7 @@ no-zeros n b true e =
     lone (decimal n) (omega (arith, one-wide n (omega arith)))
 no-zeros n b false e = no-zero-leads (decimal n) (λ z. eqb-false b.first 48 e (sym (ap (λ (l : List ℕ). get_or l 0 0) b.is) ∙ z))
 
-pub read_back : (n : ℕ) → n ≤ limit → unpadded_of (decimal n) ≡ Is n
+pub read_back : (n : ℕ) → n ≤ limit → unpadded_of (decimal n) ≡ Ok n
 read_back n h = sym (no-zeros n (begins n) (eqb (begins n).first 48) refl) ∙ any-zeros n h
 
 -- ---- what is read was written so
@@ -131,9 +149,9 @@ pub record Written (s : List ℕ) (n : ℕ) : Type 0 where
   pub text : s ≡ decimal n
   pub small : n ≤ limit
 
-abbrev Only : List ℕ → Number → Type 0
-Only s (Is n) = Written s n
-Only s (Wrong f) = Unit {0}
+abbrev Only : List ℕ → Result ℕ Flaw → Type 0
+Only s (Ok n) = Written s n
+Only s (Err f) = Unit {0}
 
 -- one digit more
 grown : (v b : ℕ) → 1 ≤ v → digit b ≡ true → decimal (with_digit v b) ≡ decimal v ++ (b ∷ [])
@@ -152,7 +170,7 @@ reading-only (b ∷ bs) v h l = go (digit b) (ltb limit (with_digit v b)) refl r
   where
     go : (d x : Bool) → digit b ≡ d → ltb limit (with_digit v b) ≡ x
         → (1 ≤ with_digit v b → with_digit v b ≤ limit → Only (decimal (with_digit v b) ++ bs) (reading (with_digit v b) bs))
-        → Only (decimal v ++ (b ∷ bs)) (cond d (cond x (Wrong Large) (reading (with_digit v b) bs)) (Wrong Foreign))
+        → Only (decimal v ++ (b ∷ bs)) (cond d (cond x (Err Large) (reading (with_digit v b) bs)) (Err Foreign))
     go true true p q later = tt
     go true false p q later =
         subst (λ (s : List ℕ). Only s (reading (with_digit v b) bs))
@@ -165,7 +183,7 @@ first-digit : (b : ℕ) (bs : List ℕ) → (b ≡ 48 → ⊥) → Only (b ∷ b
 unfolding reading
 first-digit b bs n = go (digit b) (ltb limit (with_digit 0 b)) refl refl
   where
-    go : (d x : Bool) → digit b ≡ d → ltb limit (with_digit 0 b) ≡ x → Only (b ∷ bs) (cond d (cond x (Wrong Large) (reading (with_digit 0 b) bs)) (Wrong Foreign))
+    go : (d x : Bool) → digit b ≡ d → ltb limit (with_digit 0 b) ≡ x → Only (b ∷ bs) (cond d (cond x (Err Large) (reading (with_digit 0 b) bs)) (Err Foreign))
     go true true p q = tt
     go true false p q =
         let r = bounds b p in
@@ -186,10 +204,10 @@ unfolding unpadded_of decimal_of
 all-only [] = tt
 all-only (b ∷ bs) = go (eqb b 48) (ltb 1 (length (b ∷ bs))) refl refl
   where
-    go : (t u : Bool) → eqb b 48 ≡ t → ltb 1 (length (b ∷ bs)) ≡ u → Only (b ∷ bs) (cond (t && u) (Wrong Foreign) (reading 0 (b ∷ bs)))
+    go : (t u : Bool) → eqb b 48 ≡ t → ltb 1 (length (b ∷ bs)) ≡ u → Only (b ∷ bs) (cond (t && u) (Err Foreign) (reading 0 (b ∷ bs)))
     go true true e f = tt
     go true false e f = lone-zero b bs (eqb-true b 48 e) (omega (arith, ltb-false 1 (length (b ∷ bs)) f))
     go false u e f = first-digit b bs (eqb-false b 48 e)
 
-pub only : (s : List ℕ) {n : ℕ} → unpadded_of s ≡ Is n → Written s n
+pub only : (s : List ℕ) {n : ℕ} → unpadded_of s ≡ Ok n → Written s n
 only s h = subst (Only s) h (all-only s)

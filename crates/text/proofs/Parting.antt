@@ -1,5 +1,12 @@
 -- A line parts at its first blank, and a search goes on byte by byte, item by item.
-use Rattle.std.proofs.Common.{◌≡◌, ℕ, suc, ◌+◌, ◌-◌, ◌<◌, ◌≤◌, Bool, true, false, cond, ◌&&◌, eqb, List, [], ◌∷◌, length, get_or, take, drop, sym, refl, ap, ◌∙◌, true≢false, add-one, arith, length-drop, drop_of_length-le, drop-cons, drop-drop, eq-eqb, ne_eqb, eqb-true}
+use Rattle.std.proofs.Common.{◌≡◌, ℕ, Option, Some, None, not, ltb, ltb-false, ap₂, suc, ◌+◌, ◌<◌, ◌≤◌, Bool, true, false, cond, ◌&&◌, eqb, List, [], ◌∷◌, length, get_or, drop, sym, refl, ap, ◌∙◌, true≢false, arith, length-drop, eq-eqb, ne_eqb, eqb-true}
+use denote.Ref.{Bor}
+use Rattle.std.specs.Cmp.Lexicographic.{pointwise}
+use Rattle.std.specs.Option.{unwrap_or, option_map}
+use Rattle.std.proofs.lemmas.List.Sums.{prefix_len-le-length}
+use Rattle.std.proofs.lemmas.Option.{unwrap_or-slice_get}
+use Rattle.std.specs.List.{slice_get, position, position_or_len, slice_split, onto_first}
+use Rattle.std.proofs.lemmas.List.Recursion.{is_position_or_len}
 use Rattle.text.specs.Items.{place_of, onto, items, same, place_in}
 
 -- ---- the first byte b
@@ -36,134 +43,27 @@ stands b (x ∷ xs) h = go (eqb x b) refl h (stands b xs)
 pub found_within : (b from : ℕ) (s : List ℕ) → from ≤ length s → from + place_of b (drop from s) ≤ length s
 found_within b from s h = omega (arith, place-within b (drop from s), length-drop from s)
 
-module _ (b i : ℕ) (s : List ℕ) where
-  pub found : i < length s → get_or s i 0 ≡ b → i + place_of b (drop i s) ≡ i
-  found h e = let z = ap (place_of b) (drop-cons s i 0 h) ∙ place_here b (get_or s i 0) (drop (suc i) s) e in omega (arith, z)
+-- the place, as the library says it
+pub place-prefix : (b : ℕ) (s : List ℕ) → place_of b s ≡ position_or_len (λ x. eqb x b) s
+unfolding place_of
+place-prefix b =
+    is_position_or_len (place_of b) (λ x. eqb x b) refl
+    (λ x xs. let one_on : suc (place_of b xs) ≡ 1 + place_of b xs = omega arith in ap (cond (eqb x b) 0) one_on)
 
-  pub found-on : i < length s → (get_or s i 0 ≡ b → ⊥) → i + place_of b (drop i s) ≡ (i + 1) + place_of b (drop (i + 1) s)
-  found-on h n =
-      let z = ap (place_of b) (drop-cons s i 0 h) ∙ place-on b (get_or s i 0) (drop (suc i) s) n in
-      let e = ap (λ (j : ℕ). place_of b (drop j s)) (add-one i) in
-      omega (arith, z, e)
+-- ---- a line's items are what its blanks part, as the library says it
+abbrev pub blank : ℕ → Bool
+blank x = eqb x 32
 
-  pub found_none : length s ≤ i → i + place_of b (drop i s) ≡ i
-  unfolding place_of
-  found_none h = let z = ap (place_of b) (drop_of_length-le s h) in omega (arith, z)
-
--- ---- a line and its first blank
-pub parted : (s : List ℕ) → place_of 32 s < length s → items s ≡ take (place_of 32 s) s ∷ items (drop (suc (place_of 32 s)) s)
-unfolding place_of items onto
-parted [] h = absurd (omega arith)
-parted (x ∷ xs) h = go (eqb x 32) h (parted xs)
-  where
-    go : (t : Bool) → cond t 0 (suc (place_of 32 xs)) < suc (length xs)
-        → (place_of 32 xs < length xs → items xs ≡ take (place_of 32 xs) xs ∷ items (drop (suc (place_of 32 xs)) xs))
-        → cond t ([] ∷ items xs) (onto x (items xs))
-        ≡ take (cond t 0 (suc (place_of 32 xs))) (x ∷ xs) ∷ items (drop (suc (cond t 0 (suc (place_of 32 xs)))) (x ∷ xs))
-    go true h later = refl
-    go false h later = ap (onto x) (later (omega arith))
-
-pub whole : (s : List ℕ) → length s ≤ place_of 32 s → items s ≡ s ∷ []
-unfolding place_of items onto
-whole [] h = refl
-whole (x ∷ xs) h = go (eqb x 32) h (whole xs)
-  where
-    go : (t : Bool) → suc (length xs) ≤ cond t 0 (suc (place_of 32 xs)) → (length xs ≤ place_of 32 xs → items xs ≡ xs ∷ [])
-        → cond t ([] ∷ items xs) (onto x (items xs)) ≡ (x ∷ xs) ∷ []
-    go true h later = absurd (omega arith)
-    go false h later = ap (onto x) (later (omega arith))
-
-pub first-item : (s : List ℕ) → get_or (items s) 0 [] ≡ take (place_of 32 s) s
-unfolding place_of items onto
-first-item [] = refl
-first-item (x ∷ xs) = go (eqb x 32) (items xs) (first-item xs)
-  where
-    go : (t : Bool) (is : List (List ℕ)) → get_or is 0 [] ≡ take (place_of 32 xs) xs
-        → get_or (cond t ([] ∷ is) (onto x is)) 0 [] ≡ take (cond t 0 (suc (place_of 32 xs))) (x ∷ xs)
-    go true is h = refl
-    go false [] h = ap (λ (i : List ℕ). x ∷ i) h
-    go false (i ∷ is) h = ap (λ (i : List ℕ). x ∷ i) h
-
--- ---- item k, from item to item
-pub record Walks (line : List ℕ) (k from left : ℕ) : Type 0 where
-  pub inside : from ≤ length line
-  pub so_far : get_or (items (drop from line)) left [] ≡ get_or (items line) k []
-
-module _ {line : List ℕ} {k from left : ℕ} (c : Walks line k from left) where
-  abbrev rest : List ℕ
-  rest = drop from line
-
-  abbrev end : ℕ
-  end = from + place_of 32 rest
-
-  -- the item asked for is behind the last one
-  pub none_left : length line ≤ end → 0 < left → [] ≡ get_or (items line) k []
-  none_left h n =
-      let last : items rest ≡ rest ∷ [] = whole rest (omega (arith, length-drop from line)) in
-      let one_less : left ≡ suc (left - 1) = omega arith in
-      sym (ap (λ (j : ℕ). get_or (items rest) j []) one_less ∙ ap (λ (is : List (List ℕ)). get_or is (suc (left - 1)) []) last) ∙ c.so_far
-
-  pub next-item : end < length line → 0 < left → Walks line k (end + 1) (left - 1)
-  next-item h n =
-      let two : items rest ≡ take (place_of 32 rest) rest ∷ items (drop (suc (place_of 32 rest)) rest) = parted rest (omega (arith, length-drop from line)) in
-      let one_less : left ≡ suc (left - 1) = omega arith in
-      let place : from + suc (place_of 32 rest) ≡ end + 1 = omega arith in
-      let behind : drop (suc (place_of 32 rest)) rest ≡ drop (end + 1) line =
-      drop-drop (suc (place_of 32 rest)) from line ∙ ap (λ (j : ℕ). drop j line) place in
-      record {
-        inside = omega arith;
-        so_far =
-            sym
-            (ap (λ (j : ℕ). get_or (items rest) j []) one_less ∙ ap (λ (is : List (List ℕ)). get_or is (suc (left - 1)) []) two
-            ∙ ap (λ (s : List ℕ). get_or (items s) (left - 1) []) behind)
-            ∙ c.so_far;
-      }
-
-  pub this-item : left ≤ 0 → take (place_of 32 rest) rest ≡ get_or (items line) k []
-  this-item h =
-      let none : left ≡ 0 = omega arith in
-      sym (first-item rest) ∙ sym (ap (λ (j : ℕ). get_or (items rest) j []) none) ∙ c.so_far
-
--- ---- how many items
-some : (s : List ℕ) → 1 ≤ length (items s)
+pub items-split : (s : List ℕ) → items s ≡ slice_split blank s
 unfolding items onto
-some [] = omega arith
-some (x ∷ xs) = go (eqb x 32) (items xs)
+items-split [] = refl
+items-split (x ∷ xs) =
+    ap (λ (is : List (List ℕ)). cond (blank x) ([] ∷ is) (onto x is)) (items-split xs)
+    ∙ ap (λ (is : List (List ℕ)). cond (blank x) ([] ∷ slice_split blank xs) is) (first (slice_split blank xs))
   where
-    go : (t : Bool) (is : List (List ℕ)) → 1 ≤ length (cond t ([] ∷ is) (onto x is))
-    go true is = omega arith
-    go false [] = omega arith
-    go false (i ∷ is) = omega arith
-
-pub blank-parts : (s : List ℕ) (i : ℕ) → i < length s → get_or s i 0 ≡ 32 → length (items (drop i s)) ≡ length (items (drop (i + 1) s)) + 1
-unfolding items
-blank-parts s i h e =
-    let x = get_or s i 0 in
-    let rest = drop (suc i) s in
-    let one_on : length (items (drop (i + 1) s)) ≡ length (items rest) = ap (λ (j : ℕ). length (items (drop j s))) (add-one i) in
-    let opened : length (items (drop i s)) ≡ suc (length (items rest)) =
-    ap (λ (t : List ℕ). length (items t)) (drop-cons s i 0 h)
-    ∙ ap (λ (t : Bool). length (cond t ([] ∷ items rest) (onto x (items rest)))) (eq-eqb x 32 e) in
-    omega (arith, one_on, opened)
-
-as_many : (x : ℕ) (is : List (List ℕ)) → 1 ≤ length is → length (onto x is) ≡ length is
-unfolding onto
-as_many x [] h = absurd (omega arith)
-as_many x (i ∷ is) h = refl
-
-pub byte-goes-on : (s : List ℕ) (i : ℕ) → i < length s → (get_or s i 0 ≡ 32 → ⊥) → length (items (drop i s)) ≡ length (items (drop (i + 1) s))
-unfolding items
-byte-goes-on s i h n =
-    let x = get_or s i 0 in
-    let rest = drop (suc i) s in
-    ap (λ (t : List ℕ). length (items t)) (drop-cons s i 0 h)
-    ∙ ap (λ (t : Bool). length (cond t ([] ∷ items rest) (onto x (items rest)))) (ne_eqb x 32 n)
-    ∙ as_many x (items rest) (some rest)
-    ∙ sym (ap (λ (j : ℕ). length (items (drop j s))) (add-one i))
-
-pub none_more : (s : List ℕ) (i : ℕ) → length s ≤ i → length (items (drop i s)) ≡ 1
-unfolding items
-none_more s i h = ap (λ (t : List ℕ). length (items t)) (drop_of_length-le s h)
+    first : (is : List (List ℕ)) → onto x is ≡ onto_first x is
+    first [] = refl
+    first (i ∷ is) = refl
 
 -- ---- a name among items
 self-same : (s : List ℕ) → same s s ≡ true
@@ -194,20 +94,35 @@ tested {r} {s} {t} {u} f e = go r (same s u) refl refl
     go false true p q = f.1 (same-only s u q ∙ sym e) ∙ sym q
     go false false p q = p ∙ sym q
 
-module _ (name : List ℕ) (is : List (List ℕ)) (k : ℕ) where
-  pub named_here : k < length is → same name (get_or is k []) ≡ true → k + place_in name (drop k is) ≡ k
-  unfolding place_in
-  named_here h e =
-      let z = ap (place_in name) (drop-cons is k [] h) ∙ ap (λ (t : Bool). cond t 0 (suc (place_in name (drop (suc k) is)))) e in
-      omega (arith, z)
+-- the same, as the library says it
+same-pointwise : (s t : List ℕ) → same s t ≡ pointwise eqb s t
+unfolding same
+same-pointwise [] [] = refl
+same-pointwise [] (y ∷ ys) = refl
+same-pointwise (x ∷ xs) [] = refl
+same-pointwise (x ∷ xs) (y ∷ ys) = ap (λ (b : Bool). eqb x y && b) (same-pointwise xs ys)
 
-  pub named-on : k < length is → same name (get_or is k []) ≡ false → k + place_in name (drop k is) ≡ (k + 1) + place_in name (drop (k + 1) is)
-  unfolding place_in
-  named-on h e =
-      let z = ap (place_in name) (drop-cons is k [] h) ∙ ap (λ (t : Bool). cond t 0 (suc (place_in name (drop (suc k) is)))) e in
-      let one_on = ap (λ (j : ℕ). place_in name (drop j is)) (add-one k) in
-      omega (arith, z, one_on)
+place_in-position : (name : List ℕ) (is : List (List ℕ)) → place_in name is ≡ position_or_len (pointwise eqb name) is
+unfolding place_in
+place_in-position name =
+    is_position_or_len (place_in name) (pointwise eqb name) refl
+    (λ i is. let one_on : suc (place_in name is) ≡ 1 + place_in name is = omega arith in ap₂ (λ (b : Bool) (n : ℕ). cond b 0 n) (same-pointwise name i) one_on)
 
-  pub named_none : length is ≤ k → k + place_in name (drop k is) ≡ k
-  unfolding place_in
-  named_none h = let z = ap (place_in name) (drop_of_length-le is h) in omega (arith, z)
+pub position-or-length : {A : Type 0} (p : A → Bool) (xs : List A) → unwrap_or (position p xs) (length xs) ≡ position_or_len p xs
+position-or-length p xs = go (ltb (position_or_len p xs) (length xs)) refl
+  where
+    go : (t : Bool) → ltb (position_or_len p xs) (length xs) ≡ t → unwrap_or (cond t (Some (position_or_len p xs)) None) (length xs) ≡ position_or_len p xs
+    go true e = refl
+    go false e = omega (arith, ltb-false (position_or_len p xs) (length xs) e, prefix_len-le-length (λ x. not (p x)) xs)
+
+pub placed : (name : List ℕ) (is : List (List ℕ)) → unwrap_or (position (pointwise eqb name) is) (length is) ≡ place_in name is
+placed name is = position-or-length (pointwise eqb name) is ∙ sym (place_in-position name is)
+
+-- the item that a reference shows, or none
+pub item-or-none : (o : Option (Bor (List ℕ))) {r : Bor (List ℕ)} (d : Bor (List ℕ)) (is : List (List ℕ)) (k : ℕ) → r ≡ unwrap_or o d → d.now ≡ []
+    → option_map (λ (x : Bor (List ℕ)). x.now) o ≡ slice_get is k → r.now ≡ get_or is k []
+item-or-none o {r} d is k e z at = ap (λ (x : Bor (List ℕ)). x.now) e ∙ shown o ∙ ap (λ (i : Option (List ℕ)). unwrap_or i []) at ∙ unwrap_or-slice_get is k []
+  where
+    shown : (o : Option (Bor (List ℕ))) → (unwrap_or o d).now ≡ unwrap_or (option_map (λ (x : Bor (List ℕ)). x.now) o) []
+    shown None = z
+    shown (Some x) = refl

@@ -1,7 +1,5 @@
 -- A word's four hexadecimal digits, the highest first.
-use Rattle.std.specs.Prelude.{ℕ, ◌+◌, ◌-◌, ◌*◌, ◌/◌, ◌%◌, Bool, cond, ◌&&◌, ◌||◌, List, [], ◌∷◌, length, nat_le, nat_lt, slice_index}
-use Rattle.text.specs.declared.hexadecimal.Word.{Word}
-use Rattle.text.specs.declared.hexadecimal.Word.TheVariants.{Is, Wrong}
+use Rattle.std.specs.Prelude.{ℕ, ◌+◌, ◌-◌, ◌*◌, ◌/◌, ◌%◌, Bool, cond, ◌&&◌, ◌||◌, Option, Some, None, List, [], ◌∷◌, length, nat_le, nat_lt, slice_index}
 use Rattle.text.specs.Number.{digit}
 
 -- 0 to 9 and A to F
@@ -12,15 +10,15 @@ hex_digit b = digit b || (nat_le 65 b && nat_le b 70)
 abbrev pub worth : ℕ → ℕ
 worth b = cond (digit b) (b - 48) (b - 55)
 
-unfoldable pub spelt : ℕ → ℕ → ℕ → ℕ → Word
+unfoldable pub spelt : ℕ → ℕ → ℕ → ℕ → Option ℕ
 spelt a b c d =
     cond (hex_digit a && (hex_digit b && (hex_digit c && hex_digit d)))
-    (Is (worth a * 4096 + worth b * 256 + worth c * 16 + worth d))
-    Wrong
+    (Some (worth a * 4096 + worth b * 256 + worth c * 16 + worth d))
+    None
 
 -- what the first four bytes spell
-unfoldable pub hex_of : List ℕ → Word
-hex_of s = cond (nat_lt (length s) 4) Wrong (spelt (slice_index s 0) (slice_index s 1) (slice_index s 2) (slice_index s 3))
+unfoldable pub hex_of : List ℕ → Option ℕ
+hex_of s = cond (nat_lt (length s) 4) None (spelt (slice_index s 0) (slice_index s 1) (slice_index s 2) (slice_index s 3))
 
 -- the last digit of a number
 unfoldable pub last_digit : ℕ → ℕ

@@ -1,44 +1,27 @@
 // Words of four hexadecimal digits, 0 to 9 and A to F.
 ghost use Rattle.std.specs.Prelude.{◌≡◌, if◌then◌else◌};
-ghost use Rattle.text.specs.Hexadecimal.{hex_digit, worth as worthOf, hex_of, last_digit, hex_digits};
-
-use crate::number::is_digit;
-
-// The word that digits spell, or something else stands there.
-#[derive(Clone, Copy)]
-pub enum Word {
-    Is(u16),
-    Wrong,
-}
+ghost use Rattle.text.specs.Hexadecimal.{hex_digit, worth, hex_of, last_digit, hex_digits};
 
 // The word that the item's first four bytes spell.
-pub fn word_of(item: &[u8]) -> Word
+pub fn word_of(item: &[u8]) -> Option<u16>
     ensures { result ≡ hex_of item.now }
 {
-    if item.len() < 4 {
-        return Word::Wrong;
-    }
-    let n = worth(item[0]) * 4096 + worth(item[1]) * 256 + worth(item[2]) * 16 + worth(item[3]);
-    if 0xffff < n {
-        return Word::Wrong;
-    }
-    Word::Is(n as u16)
+    let [a, b, c, d, ..] = item else {
+        return None;
+    };
+    Some(worth(*a)? * 4096 + worth(*b)? * 256 + worth(*c)? * 16 + worth(*d)?)
 }
 
-// What a digit is worth; for any other byte a number that no word reaches.
-fn worth(b: u8) -> u32
-    ensures { result ≡ (if hex_digit b then worthOf b else 65536) }
+// What a digit is worth.
+#[tactic(auto, unfolding(crate::specs::Hexadecimal::hex_digit, crate::specs::Number::digit), using(std::proofs::lemmas::Bool::Decides::nat_tests))]
+fn worth(b: u8) -> Option<u16>
+    ensures { result ≡ (if hex_digit b then Some (worth b) else None) }
 {
-    if is_digit(b) {
-        return (b - b'0') as u32;
+    match b {
+        b'0'..=b'9' => Some(u16::from(b - b'0')),
+        b'A'..=b'F' => Some(u16::from(b - b'A') + 10),
+        _ => None,
     }
-    if b < b'A' {
-        return 65536;
-    }
-    if b'F' < b {
-        return 65536;
-    }
-    (b - 55) as u32
 }
 
 // The four digits of a word, the highest first.
@@ -53,12 +36,10 @@ pub fn digits_of(word: u16) -> [u8; 4]
     ]
 }
 
+#[tactic(auto, unfolding(crate::specs::Hexadecimal::last_digit), using(std::proofs::lemmas::Bool::Decides::nat_tests))]
 fn last_digit(n: u16) -> u8
     ensures { result ≡ last_digit n }
 {
     let d = (n % 16) as u8;
-    if d < 10 {
-        return d + b'0';
-    }
-    d + 55
+    if d < 10 { b'0' + d } else { b'A' + (d - 10) }
 }

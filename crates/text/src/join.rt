@@ -8,17 +8,11 @@ pub fn put(part: &[u8], room: &mut [u8], at: usize) -> usize
     ensures value { result ≡ at + min (length part.now) (length room.old - at) }
     ensures room_after { room.new ≡ sets room.old at part.now }
 {
-    let mut i = 0;
-    let mut to = at;
-    while i < part.len() {
-        if room.len() <= to {
-            return to;
-        }
-        room[to] = part[i];
-        i += 1;
-        to += 1;
+    let fits = part.len().min(room.len().saturating_sub(at));
+    for (i, b) in part[..fits].iter().enumerate() {
+        room[at + i] = *b;
     }
-    to
+    at + fits
 }
 
 // The same where there is room for the whole part.

@@ -1,16 +1,9 @@
 // Decimal numbers, read; zeros may lead where nothing else is said.
-ghost use Rattle.std.specs.Prelude.{◌≡◌};
-ghost use Rattle.text.specs.Number.{digit, decimal_of, unpadded_of, at_most, negated, signed_of};
+ghost use Rattle.std.specs.Prelude.{◌≡◌, [], ◌∷◌};
+ghost use Rattle.text.specs.Number.{reading, decimal_of, unpadded_of, at_most, signed_of};
 
-// The number that an item spells, or what is wrong with it.
-#[derive(Clone, Copy)]
-pub enum Number {
-    Is(u32),
-    Wrong(Flaw),
-}
-
-// No digits, or another byte among them; a number that is too large.
-#[derive(Clone, Copy)]
+// Why an item spells no number: no digits, or another byte among them; a number that is too large.
+#[derive(Clone, Copy, PartialEq, Eq, Debug)]
 pub enum Flaw {
     Foreign,
     Large,
@@ -21,90 +14,60 @@ const MOST: u64 = 0xffff_ffff;
 const HALF: u32 = 0x8000_0000;
 
 // 0 to 4,294,967,295.
-pub fn unsigned(item: &[u8]) -> Number
+pub fn unsigned(item: &[u8]) -> Result<u32, Flaw>
     ensures { result ≡ decimal_of item.now }
 {
-    if item.len() == 0 {
-        return Number::Wrong(Flaw::Foreign);
+    if item.is_empty() {
+        return Err(Flaw::Foreign);
     }
-    let mut n: u64 = 0;
-    let mut i = 0;
-    while i < item.len() {
-        let b = item[i];
-        if !is_digit(b) {
-            return Number::Wrong(Flaw::Foreign);
-        }
-        n = n * 10 + ((b - b'0') as u64);
-        if MOST < n {
-            return Number::Wrong(Flaw::Large);
-        }
-        i += 1;
+    let mut n = 0;
+    for b in item {
+        n = with_digit(n, *b)?;
     }
-    Number::Is(n as u32)
+    Ok(n)
 }
 
 // The same, but that no zero leads: a 0 stands alone.
-pub fn unpadded(item: &[u8]) -> Number
+pub fn unpadded(item: &[u8]) -> Result<u32, Flaw>
     ensures { result ≡ unpadded_of item.now }
 {
-    if item.len() < 2 {
-        return unsigned(item);
-    }
-    if item[0] == b'0' {
-        return Number::Wrong(Flaw::Foreign);
+    if 1 < item.len() && item.starts_with(b"0") {
+        return Err(Flaw::Foreign);
     }
     unsigned(item)
 }
 
-pub(crate) fn is_digit(b: u8) -> bool
-    ensures { result ≡ digit b }
+// A number and one digit more.
+fn with_digit(n: u32, b: u8) -> Result<u32, Flaw>
+    ensures { result ≡ reading n (b ∷ []) }
 {
-    if b < b'0' {
-        return false;
+    if !b.is_ascii_digit() {
+        return Err(Flaw::Foreign);
     }
-    b <= b'9'
+    let more = u64::from(n) * 10 + u64::from(b - b'0');
+    if MOST < more {
+        return Err(Flaw::Large);
+    }
+    Ok(more as u32)
 }
 
 // 0 to `most`.
-pub fn at_most(item: &[u8], most: u32) -> Number
+pub fn at_most(item: &[u8], most: u32) -> Result<u32, Flaw>
     ensures { result ≡ at_most most (decimal_of item.now) }
 {
-    no_more(unsigned(item), most)
-}
-
-fn no_more(read: Number, most: u32) -> Number
-    ensures { result ≡ at_most most read }
-{
-    match read {
-        Number::Is(n) => {
-            if most < n {
-                Number::Wrong(Flaw::Large)
-            } else {
-                read
-            }
-        }
-        Number::Wrong(_) => read,
+    let n = unsigned(item)?;
+    if most < n {
+        return Err(Flaw::Large);
     }
+    Ok(n)
 }
 
 // -2,147,483,648 to 2,147,483,647, as 32 bits in two's complement.
-pub fn signed(item: &[u8]) -> Number
+pub fn signed(item: &[u8]) -> Result<u32, Flaw>
     ensures { result ≡ signed_of item.now }
 {
-    if item.len() == 0 {
-        return Number::Wrong(Flaw::Foreign);
-    }
-    if item[0] == b'-' {
-        return negative(at_most(&item[1..], HALF));
-    }
-    at_most(item, HALF - 1)
-}
-
-fn negative(read: Number) -> Number
-    ensures { result ≡ negated read }
-{
-    match read {
-        Number::Is(n) => Number::Is(std::num::wrapping_sub_u32(0, n)),
-        Number::Wrong(_) => read,
+    match item.strip_prefix(b"-") {
+        Some(digits) => Ok(at_most(digits, HALF)?.wrapping_neg()),
+        None => at_most(item, HALF - 1),
     }
 }

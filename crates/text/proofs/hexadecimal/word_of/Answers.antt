@@ -1,36 +1,40 @@
 -- `text::hexadecimal::word_of` meets its contract.
-use Rattle.std.proofs.Common.{get_or, arith}
-use Rattle.text.proofs.Spelling.{taken-most, short, too_much, a_word}
+use Rattle.std.proofs.Common.{refl, ◌∙◌, arith}
+use Rattle.text.proofs.Spelling.{small, short, long}
 use Rattle.text.proofs.hexadecimal.word_of.Goals as goal
 
-pub returns-then-item-lt4 : goal.returns-then-item-lt4
-returns-then-item-lt4 c = short _ c.if-item-lt4.true
+pub returns-in_default : goal.returns-in_default
+returns-in_default c = short _ c.in_default.len_below
 
--- what each call gives is at most 65,536
-pub overflow_mul-n : goal.overflow_mul-n
-overflow_mul-n c = omega (arith, taken-most (get_or c.args.item.now 0 0))
+pub returns-in_err-worth : goal.returns-in_err-worth
+returns-in_err-worth c = c.from_residual.ensures ∙ long _ c.in-len4-up.len_at_least c.in_err-worth.ensures refl refl refl
 
-pub overflow_mul-n-2 : goal.overflow_mul-n-2
-overflow_mul-n-2 c = omega (arith, taken-most (get_or c.args.item.now 1 0))
+pub returns-in_err-worth-2 : goal.returns-in_err-worth-2
+returns-in_err-worth-2 c =
+    c.from_residual-in_err-worth-2.ensures ∙ long _ c.in-len4-up.len_at_least c.in_ok-worth.ensures c.in_err-worth-2.ensures refl refl
 
-pub overflow_add-n : goal.overflow_add-n
-overflow_add-n c = omega (arith, taken-most (get_or c.args.item.now 0 0), taken-most (get_or c.args.item.now 1 0))
+pub returns-in_err-worth-3 : goal.returns-in_err-worth-3
+returns-in_err-worth-3 c =
+    c.from_residual-in_err-worth-3.ensures
+    ∙ long _ c.in-len4-up.len_at_least c.in_ok-worth.ensures c.in_ok-worth-2.ensures c.in_err-worth-3.ensures refl
 
-pub overflow_mul-n-3 : goal.overflow_mul-n-3
-overflow_mul-n-3 c = omega (arith, taken-most (get_or c.args.item.now 2 0))
+pub returns-in_err-worth-4 : goal.returns-in_err-worth-4
+returns-in_err-worth-4 c =
+    c.from_residual-in_err-worth-4.ensures
+    ∙ long _ c.in-len4-up.len_at_least c.in_ok-worth.ensures c.in_ok-worth-2.ensures c.in_ok-worth-3.ensures c.in_err-worth-4.ensures
 
-pub overflow_add-n-2 : goal.overflow_add-n-2
-overflow_add-n-2 c =
-    let s = c.args.item.now in
-    omega (arith, taken-most (get_or s 0 0), taken-most (get_or s 1 0), taken-most (get_or s 2 0))
+pub overflow_mul-result : goal.overflow_mul-result
+overflow_mul-result c = omega (arith, small _ c.in_ok-worth.ensures)
 
-pub overflow_add-n-3 : goal.overflow_add-n-3
-overflow_add-n-3 c =
-    let s = c.args.item.now in
-    omega (arith, taken-most (get_or s 0 0), taken-most (get_or s 1 0), taken-most (get_or s 2 0), taken-most (get_or s 3 0))
+pub overflow_add-result : goal.overflow_add-result
+overflow_add-result c = omega (arith, small _ c.in_ok-worth.ensures, small _ c.in_ok-worth-2.ensures)
 
-pub returns-then-n-gt65535 : goal.returns-then-n-gt65535
-returns-then-n-gt65535 c = too_much _ c.if-item-lt4.false c.worth.ensures c.worth-2.ensures c.worth-3.ensures c.worth-4.ensures c.if-n-gt65535.true
+pub overflow_add-result-2 : goal.overflow_add-result-2
+overflow_add-result-2 c = omega (arith, small _ c.in_ok-worth.ensures, small _ c.in_ok-worth-2.ensures, small _ c.in_ok-worth-3.ensures)
+
+pub overflow_add-result-3 : goal.overflow_add-result-3
+overflow_add-result-3 c =
+    omega (arith, small _ c.in_ok-worth.ensures, small _ c.in_ok-worth-2.ensures, small _ c.in_ok-worth-3.ensures, small _ c.in_ok-worth-4.ensures)
 
 pub returns : goal.returns
-returns c = a_word _ c.if-item-lt4.false c.worth.ensures c.worth-2.ensures c.worth-3.ensures c.worth-4.ensures c.if-n-gt65535.false
+returns c = long _ c.in-len4-up.len_at_least c.in_ok-worth.ensures c.in_ok-worth-2.ensures c.in_ok-worth-3.ensures c.in_ok-worth-4.ensures

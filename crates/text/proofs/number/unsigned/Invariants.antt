@@ -1,10 +1,7 @@
 -- `text::number::unsigned` meets its contract: what will be read from here is what is read.
-use Rattle.std.proofs.Common.{◌-◌, length}
-use Rattle.text.proofs.Reading.{Reads}
+use Rattle.std.proofs.Common.{◌≡◌, drop}
+use Rattle.text.specs.Number.{reading, decimal_of}
 use Rattle.text.proofs.number.unsigned.Given as goal
 
-abbrev pub invariant-loop-i : goal.invariant-loop-i
-invariant-loop-i l = Reads l.item l.n l.i
-
-abbrev pub decreases-loop-i : goal.decreases-loop-i
-decreases-loop-i l = length l.item - l.i
+abbrev pub invariant-loop-b : goal.invariant-loop-b
+invariant-loop-b l = reading l.n (drop l.b-index l.item) ≡ decimal_of l.item
