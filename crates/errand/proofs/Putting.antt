@@ -40,9 +40,9 @@ module _ {bytes words₀ words : List ℕ} {i : ℕ} (c : Puts bytes words₀ wo
   pub all_put : i ≡ min (length words) (length bytes / 2) → words ≡ sets words₀ 0 (words_in bytes)
   all_put e = by (dec_lt i (length words))
     where
-    by : Dec (i < length words) → words ≡ sets words₀ 0 (words_in bytes)
-    by (yes room) = sym (ap (sets words i) (none_left bytes (2 * i) (omega (arith, e)))) ∙ c.stored
-    by (no full) = sym (sets-out words i (words_in (drop (2 * i) bytes)) (omega (arith, full))) ∙ c.stored
+      by : Dec (i < length words) → words ≡ sets words₀ 0 (words_in bytes)
+      by (yes room) = sym (ap (sets words i) (none_left bytes (2 * i) (omega (arith, e)))) ∙ c.stored
+      by (no full) = sym (sets-out words i (words_in (drop (2 * i) bytes)) (omega (arith, full))) ∙ c.stored
 
   pub one_word : 2 * i + 1 < length bytes → i < length words → {w : ℕ} → w ≡ word (get_or bytes (2 * i) 0) (get_or bytes (2 * i + 1) 0)
       → Puts bytes words₀ (set words i w) (i + 1)

@@ -214,8 +214,9 @@ fn who_asked(rt: HostRuntime, first: usize) -> Option<Wish>
             let names = &[
                 "width", "height", "x", "y", "left", "top", "right", "bottom", "budget",
             ];
-            let [width, height, x, y, left, top, right, bottom, budget] =
-                numbers::<9>(rt, first, names)?;
+            let [width, height, x, y, left, top, right, bottom, budget] = numbers::<9>(
+                rt, first, names,
+            )?;
             let pane = Pane {
                 left,
                 top,

@@ -20,9 +20,7 @@ fn load<'a>(
     long: &str,
 ) -> Option<&'a [u8]> {
     let read = read_file(&rt, path, room);
-    let end = read
-        .map_err(|error| fail(&rt.stderr(), told, error))
-        .ok()?;
+    let end = read.map_err(|error| fail(&rt.stderr(), told, error)).ok()?;
     if room.len() <= end {
         complain(&rt.stderr(), told, long);
         return None;

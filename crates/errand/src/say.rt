@@ -6,8 +6,7 @@ pub fn say(to: &impl Print, text: &[u8]) {
 }
 
 pub fn usage(to: &impl Print) {
-    let _ = println!(
-        to;
+    let _ = println!(to;
         "usage: play FORM [painted] LIST WIDTH HEIGHT [LEFT TOP RIGHT BOTTOM] [BUDGET], or play FORM [painted] page PAGE WIDTH HEIGHT [BUDGET], or play check LIST, or play mend LIST, or play who LIST WIDTH HEIGHT X Y [LEFT TOP RIGHT BOTTOM] [BUDGET]; FORM is ppm, png, or cells COLUMNS ROWS BITS"
     );
 }

@@ -1,5 +1,4 @@
 -- `errand::file::put_words` meets its contract: what is still to be put, put, leaves what is asked.
-use Rattle.std.proofs.Common.{◌*◌}
 use Rattle.errand.proofs.Putting.{Puts}
 use Rattle.errand.proofs.file.put_words.Given as goal
 
