@@ -3,7 +3,7 @@ ghost use Rattle.std.specs.Prelude.{◌≡◌, min, length};
 ghost use Rattle.std.proofs.lemmas.List.Edits.{sets};
 ghost use Rattle.errand.specs.Words.{word as word_of, words_in};
 
-use crate::say::complain;
+use crate::say::tell;
 use outside::fail::fail;
 use outside::file::read_file;
 
@@ -22,7 +22,7 @@ fn load<'a>(
     let read = read_file(&rt, path, room);
     let end = read.map_err(|error| fail(&rt.stderr(), told, error)).ok()?;
     if room.len() <= end {
-        complain(&rt.stderr(), told, long);
+        tell(&rt.stderr(), told, long);
         return None;
     }
     Some(&room[..end])
@@ -54,7 +54,7 @@ fn load_words<'a>(
 ) -> Option<&'a [u8]> {
     let bytes = load(rt, path, told, room, "a list of more than 65,536 words")?;
     if bytes.len() % 2 == 1 {
-        complain(
+        tell(
             &rt.stderr(),
             told,
             "an odd number of bytes: a list is words of two bytes, low byte first",

@@ -3,7 +3,7 @@ ghost use Rattle.std.specs.Prelude.{◌≡◌, IfSome};
 ghost use Rattle.errand.specs.Panes.{has_no_list, has_five_items, pane_of};
 
 use crate::number::{is_number, number};
-use crate::say::{complain, no_number};
+use crate::say::{no_number, tell};
 use raster::frame::Pane;
 use text::items::item;
 
@@ -19,7 +19,7 @@ pub fn sound_pane(to: &impl Print, line: &[u8], at: &[u8]) -> Option<Pane>
     ensures { IfSome result (λ pane. pane ≡ pane_of line.now) }
 {
     if !has_five_items(line) {
-        complain(to, at, "a line is LIST LEFT TOP RIGHT BOTTOM");
+        tell(to, at, "a line is LIST LEFT TOP RIGHT BOTTOM");
         return None;
     }
     for (k, name) in (1..5).zip(["left", "top", "right", "bottom"]) {

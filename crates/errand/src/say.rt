@@ -1,5 +1,7 @@
 // Text and lines, most of them for standard error. Where they can't be written, nothing is told.
 
+use std::fmt;
+
 // A name may be any bytes, so it is written as it is, and the words about it behind it.
 pub fn say(to: &impl Print, text: &[u8]) {
     let _ = to.write_all(text);
@@ -11,7 +13,8 @@ pub fn usage(to: &impl Print) {
     );
 }
 
-pub fn complain(to: &impl Print, name: &[u8], what: &str) {
+// NAME: what is told of it.
+pub fn tell(to: &impl Print, name: &[u8], what: impl fmt::Display + Drop) {
     say(to, name);
     let _ = println!(to; ": {what}");
 }

@@ -1,4 +1,7 @@
 // Words and word indices, as sources have them: in hexadecimal.
+ghost use Rattle.std.specs.Prelude.{Some};
+ghost use Rattle.text.specs.Hexadecimal.{hex_digits};
+
 use numbers::place::WordIndex;
 use std::fmt;
 use text::hexadecimal::digits_of;
@@ -8,11 +11,12 @@ use text::hexadecimal::digits_of;
 pub struct Word(pub u16);
 
 impl fmt::Display for Word {
+    ghost output = { λ word. Some (hex_digits word.0) };
+
     fn fmt<W: fmt::Write>(&self, f: &mut fmt::Formatter<W>) -> fmt::Result {
-        for digit in digits_of(self.0) {
-            f.write_char(char::from(digit))?;
-        }
-        Ok(())
+        let [a, b, c, d] = digits_of(self.0);
+        let (a, b, c, d) = (char::from(a), char::from(b), char::from(c), char::from(d));
+        write!(f, "{a}{b}{c}{d}")
     }
 }
 

@@ -1,7 +1,7 @@
 // What a mending changed, a line a change, on standard error.
 use crate::digits::{Index, Word};
 use crate::words::Text;
-use errand::say::{complain, say};
+use errand::say::{say, tell};
 use forms::form_of;
 use names::name_of;
 use numbers::place::WordIndex;
@@ -10,7 +10,7 @@ use rules::opcode::Form;
 // By the mender's report, which has so many changes.
 pub fn tell_mending(to: &impl Print, name: &[u8], report: &[u32], changes: u32) {
     if changes == 0 {
-        complain(to, name, "nothing to mend");
+        tell(to, name, "nothing to mend");
     } else {
         tell_changes(to, name, report, changes);
     }

@@ -2,7 +2,7 @@
 // 23, the variables.
 use crate::digits::{Index, Word};
 use crate::words::{Meaning, Text};
-use errand::say::say;
+use errand::say::tell;
 use forms::form_of;
 use names::{name_of, variables_of};
 use numbers::place::{VarNo, WordIndex};
@@ -90,14 +90,15 @@ pub fn tell_fault(to: &impl Print, name: &[u8], list: &[u16], number: u8, place:
         opcode: place,
         place,
     };
-    say(to, name);
-    let _ = match number {
-        13 | 31 => println!(to; ": {meaning}"),
-        21 if is_opcode(list, place) => {
-            println!(to; ": 21, foreign to lists that surely finish: {opcode}")
-        }
-        _ => println!(to; ": {meaning}{at}"),
-    };
+    match number {
+        13 | 31 => tell(to, name, meaning),
+        21 if is_opcode(list, place) => tell(
+            to,
+            name,
+            format_args!("21, foreign to lists that surely finish: {opcode}"),
+        ),
+        _ => tell(to, name, format_args!("{meaning}{at}")),
+    }
 }
 
 fn is_opcode(list: &[u16], at: WordIndex) -> bool {

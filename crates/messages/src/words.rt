@@ -1,13 +1,11 @@
 // A number, and what it means.
-use errand::say::say;
+use errand::say::tell;
 use std::fmt;
 use wording::{Words, words_for};
 
 // The number that a list is refused with, and what it means.
 pub fn refuse(to: &impl Print, name: &[u8], number: u8) {
-    let meaning = Meaning(number);
-    say(to, name);
-    let _ = println!(to; ": {meaning}");
+    tell(to, name, Meaning(number));
 }
 
 // NUMBER, what it means.

@@ -1,7 +1,7 @@
 // Who painted a dot, on standard output; or on standard error that it is outside the screen.
 use crate::place::Opcode;
 use crate::words::refuse;
-use errand::say::say;
+use errand::say::tell;
 use numbers::place::WordIndex;
 use std::fmt;
 
@@ -28,19 +28,16 @@ impl fmt::Display for Painter<'_> {
 
 // NAME: (X, Y): the painter, or that no step painted it
 pub fn tell_painter(to: &impl Print, name: &[u8], x: u32, y: u32, painter: Option<Painter<'_>>) {
-    say(to, name);
-    let _ = match painter {
-        Some(painter) => println!(to; ": ({x}, {y}): {painter}"),
-        None => println!(to; ": ({x}, {y}): no step painted it"),
-    };
+    match painter {
+        Some(painter) => tell(to, name, format_args!("({x}, {y}): {painter}")),
+        None => tell(to, name, format_args!("({x}, {y}): no step painted it")),
+    }
 }
 
 // The number that the question is refused with: with 25 it is the dot that is meant.
 pub fn refuse_dot(to: &impl Print, number: u8) {
     match number {
-        25 => {
-            let _ = println!(to; "play: 25, the dot is outside the screen");
-        }
+        25 => tell(to, b"play", "25, the dot is outside the screen"),
         _ => refuse(to, b"play", number),
     }
 }

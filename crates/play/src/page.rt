@@ -6,7 +6,7 @@ use errand::arguments::{BUDGET, Given};
 use errand::file::load_list;
 use errand::line::{has_no_list, sound_pane};
 use errand::path::{beside, label, place};
-use errand::say::complain;
+use errand::say::tell;
 use messages::words::refuse;
 use rules::environment::Env;
 use text::items::item;
@@ -73,7 +73,7 @@ pub fn page_of<'a>(
         }
     }
     if page.lists[0].is_none() {
-        complain(&rt.stderr(), source.path, "a page without a list");
+        tell(&rt.stderr(), source.path, "a page without a list");
         return None;
     }
     Some(page)
@@ -127,7 +127,7 @@ pub fn with_list<'a>(
     words: &'a mut [u16],
 ) -> Option<(Page<'a>, &'a mut [u16])> {
     let Some(at) = vacant(&page) else {
-        complain(&rt.stderr(), told, "a page has 8 lists at most");
+        tell(&rt.stderr(), told, "a page has 8 lists at most");
         return None;
     };
     let (list, rest) = load_list(rt, path, told, words)?;

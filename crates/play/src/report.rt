@@ -1,7 +1,7 @@
 // The lines of the lists that were played, on standard error.
 use crate::end::Ends;
 use crate::page::{Page, Playing};
-use errand::say::say;
+use errand::say::tell;
 use messages::digits::Index;
 use messages::place::Place;
 use messages::words::Meaning;
@@ -29,6 +29,6 @@ fn line(to: &impl Print, playing: &Playing<'_>) {
     let steps = playing.steps;
     let index = Index(opcode);
     let counter = opcode.0;
-    say(to, playing.name);
-    let _ = println!(to; ": {meaning}{place}: steps {steps}, counter {index} ({counter})");
+    let what = format_args!("{meaning}{place}: steps {steps}, counter {index} ({counter})");
+    tell(to, playing.name, what);
 }

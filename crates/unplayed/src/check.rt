@@ -1,7 +1,7 @@
 // Tells whether a list surely finishes: to standard output in how many steps it does, or to standard error why it may not.
 use checker::Checked;
 use errand::file::load_list;
-use errand::say::say;
+use errand::say::tell;
 use messages::place::tell_fault;
 use outside::arguments::arg;
 
@@ -17,8 +17,8 @@ pub fn check_list(rt: HostRuntime, at: usize, words: &mut [u16]) -> Option<()> {
 fn judged(rt: HostRuntime, name: &[u8], list: &[u16]) -> Option<()> {
     match checked(list) {
         Ok(steps) => {
-            say(&rt.stdout(), name);
-            let _ = println!(rt; ": surely finishes: steps {steps}");
+            let what = format_args!("surely finishes: steps {steps}");
+            tell(&rt.stdout(), name, what);
             Some(())
         }
         Err(fault) => {
