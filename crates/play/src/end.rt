@@ -1,6 +1,6 @@
 // How it ended: the program writes a digit to descriptor 3, and ./play exits with that.
 ghost use Rattle.std.specs.Prelude.{◌≡◌};
-ghost use Rattle.play.specs.Ends.{none_yet, with_number, end_of};
+ghost use Rattle.play.specs.Ends.{none_yet, with_number, end_of, status_of};
 
 use outside::file::read_file;
 use std::fs::OpenOptions;
@@ -17,6 +17,8 @@ pub enum End {
 }
 
 impl From<End> for u8 {
+    ghost from_gives = { λ end status. status ≡ status_of end };
+
     fn from(end: End) -> u8 {
         match end {
             End::Done => 0,

@@ -66,11 +66,9 @@ pub fn page_of<'a>(
     let mut page = empty();
     let mut room = words;
     for (line, number) in text.split(|byte| *byte == b'\n').zip(1..=u32::MAX) {
-        if !has_no_list(line) {
-            let (more, rest) = with_line(rt, source, page, line, number, room)?;
-            page = more;
-            room = rest;
-        }
+        let (more, rest) = with_line(rt, source, page, line, number, room)?;
+        page = more;
+        room = rest;
     }
     if page.lists[0].is_none() {
         tell(&rt.stderr(), source.path, "a page without a list");
@@ -79,7 +77,7 @@ pub fn page_of<'a>(
     Some(page)
 }
 
-// The page with the list of line `number` more, and the rest of the room.
+// The page with the list of line `number` more, if it has one, and the rest of the room.
 fn with_line<'a>(
     rt: HostRuntime,
     source: Source<'_>,
@@ -88,6 +86,9 @@ fn with_line<'a>(
     number: u32,
     words: &'a mut [u16],
 ) -> Option<(Page<'a>, &'a mut [u16])> {
+    if has_no_list(line) {
+        return Some((page, words));
+    }
     let mut room = io::buffer();
     let n = place(source.path, number, &mut room);
     let at = &room[..n];
