@@ -145,7 +145,7 @@ fn vacant(page: &Page<'_>) -> Option<usize>
 
 fn with_playing<'a>(page: Page<'a>, at: usize, playing: Playing<'a>) -> Page<'a>
     requires { at < 8 }
-    ensures { result ≡ with_playing playing at page }
+    ensures { result ≡ with_playing playing.entry at page.entry }
 {
     let mut p = page;
     p.lists[at] = Some(playing);
