@@ -14,8 +14,8 @@ ghost use Rattle.std.specs.Prelude.{◌≡◌, ◌*◌};
 use end::{End, tell};
 use errand::arguments::{Form, Given, Look, Wish, asked};
 use errand::file::load_page;
-use outside::arguments::arg;
 use output::write;
+use outside::arguments::arg;
 use page::{Page, Playing, Source, empty, fresh_or_told, page_of, with_list};
 use report::report;
 use slices::rounds;
@@ -98,13 +98,7 @@ fn draw(
 
 // Runs the lists on as much of the room as the screen is, tells what each answers, and writes the picture where one has
 // ended or still runs.
-fn run(
-    rt: HostRuntime,
-    page: Page<'_>,
-    given: Given,
-    look: Look,
-    room: &mut [u8],
-) -> Option<End> {
+fn run(rt: HostRuntime, page: Page<'_>, given: Given, look: Look, room: &mut [u8]) -> Option<End> {
     let screen = room.get_mut(..area(given.width, given.height))?;
     let mut page = page;
     if look.painted {

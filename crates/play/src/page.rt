@@ -56,21 +56,23 @@ pub struct Source<'a> {
     pub given: Given,
 }
 
-// The page that the lines of a text make, whose words go into the room; or a line has told why there is none.
+// The page that the lines of a text make, whose words go into the room; or a line has told why there is none. The first line stands
+// before the loop, as a page may not come to hold a part of the room within it.
 pub fn page_of<'a>(
     rt: HostRuntime,
     source: Source<'_>,
     text: &'a [u8],
     words: &'a mut [u16],
 ) -> Option<Page<'a>> {
-    let mut page = empty();
-    let mut room = words;
-    for (line, number) in text.split(|byte| *byte == b'\n').zip(1..=u32::MAX) {
+    let mut lines = text.split(|byte| *byte == b'\n');
+    let first = lines.next().unwrap_or(&[]);
+    let (mut page, mut room) = with_line(rt, source, empty(), first, 1, words)?;
+    for (line, number) in lines.zip(2..=u32::MAX) {
         let (more, rest) = with_line(rt, source, page, line, number, room)?;
         page = more;
         room = rest;
     }
-    if page.lists[0].is_none() {
+    if vacant(&page) == Some(0) {
         tell(&rt.stderr(), source.path, "a page without a list");
         return None;
     }
