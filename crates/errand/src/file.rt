@@ -65,6 +65,7 @@ fn load_words<'a>(
 }
 
 // Puts the words that the bytes spell at the start of the room, as far as they fit, and answers where they end.
+// By their indices, as nothing is known of what is written through an adapter of `iter_mut`.
 fn put_words(bytes: &[u8], words: &mut [u16]) -> usize
     ensures value { result ≡ min (length (words_in bytes.now)) (length words.old) }
     ensures words_after { words.new ≡ sets words.old 0 (words_in bytes.now) }

@@ -1,5 +1,5 @@
 // Where a list of a page is looked for, and what a message about a page names.
-ghost use Rattle.std.specs.Prelude.{◌≡◌, ◌≢◌, ◌<◌, ℕ, min, length, slice_index, MatchOption};
+ghost use Rattle.std.specs.Prelude.{◌≡◌, ◌≢◌, ◌<◌, ℕ, min, length, slice_index, IfNone, IfSome};
 ghost use Rattle.std.proofs.lemmas.List.Edits.{sets};
 ghost use Rattle.io.specs.Counts.{IsPrefixLen};
 ghost use Rattle.errand.specs.Paths.{behind_slash, from_top, folder_for, beside_of};
@@ -45,12 +45,15 @@ fn behind_slash(path: &[u8]) -> usize
 }
 
 fn last_slash(path: &[u8]) -> Option<usize>
-    ensures { MatchOption result ((k : ℕ) → k < length path.now → slice_index path.now k ≢ 47) (λ i. i < length path.now × slice_index path.now i ≡ 47 × ((k : ℕ) → i < k → k < length path.now → slice_index path.now k ≢ 47)) }
+    ensures none { IfNone result ((k : ℕ) → k < length path.now → slice_index path.now k ≢ 47) }
+    ensures within { IfSome result (λ i. i < length path.now × slice_index path.now i ≡ 47) }
+    ensures last { IfSome result (λ i. (k : ℕ) → i < k → k < length path.now → slice_index path.now k ≢ 47) }
 {
     path.iter().rposition(|byte| *byte == b'/')
 }
 
-// Puts PAGE:LINE into the room, as far as it fits, and answers where it ends.
+// Puts PAGE:LINE into the room, as far as it fits, and answers where it ends. By `put` throughout: a page's name may be any bytes, which
+// no format writes.
 pub fn place(page: &[u8], line: u32, room: &mut [u8]) -> usize
     ensures { IsPrefixLen result room.new }
 {

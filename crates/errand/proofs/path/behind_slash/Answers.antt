@@ -3,7 +3,7 @@ use Rattle.errand.proofs.Paths.{no_slash, last_slash}
 use Rattle.errand.proofs.path.behind_slash.Goals as goal
 
 pub returns-in-Some : goal.returns-in-Some
-returns-in-Some c = last_slash _ c.in-Some.ensures.0 c.in-Some.ensures.1 c.in-Some.ensures.2
+returns-in-Some c = last_slash _ c.in-Some.ensures.within.0 c.in-Some.ensures.within.1 c.in-Some.ensures.last
 
 pub returns-in-None : goal.returns-in-None
-returns-in-None c = no_slash _ c.in-None.ensures
+returns-in-None c = no_slash _ c.in-None.ensures.none
