@@ -101,11 +101,7 @@ fn draw(
 fn run(rt: HostRuntime, page: Page<'_>, given: Given, look: Look, room: &mut [u8]) -> Option<End> {
     let screen = room.get_mut(..area(given.width, given.height))?;
     let mut page = page;
-    if look.painted {
-        rounds(tint::tinted, screen, &mut page);
-    } else {
-        rounds(ovenlute::run, screen, &mut page);
-    }
+    rounds(screen, &mut page, look.painted);
     match report(&rt.stderr(), &page).end_of() {
         End::Nothing => None,
         end => {

@@ -10,8 +10,16 @@ const SLICE: u32 = 1_000;
 
 const SLICES: u32 = 1_000;
 
-// Each list to its end, to a stop, or to the end of its budget, by the run that is asked for.
-pub fn rounds<R: Fn(&[u16], &mut [u8], Env, u32) -> Answer>(
+// Each list to its end, to a stop, or to the end of its budget; where it is to be seen who painted what, in the opcodes' own colours.
+pub fn rounds(screen: &mut [u8], page: &mut Page<'_>, painted: bool) {
+    if painted {
+        rounds_by(tint::tinted, screen, page);
+    } else {
+        rounds_by(ovenlute::run, screen, page);
+    }
+}
+
+fn rounds_by<R: Fn(&[u16], &mut [u8], Env, u32) -> Answer>(
     run: R,
     screen: &mut [u8],
     page: &mut Page<'_>,
