@@ -1,4 +1,3 @@
 mod Lines
-mod Parts
 mod Putting
 mod Paths

@@ -1,29 +1,29 @@
 -- A page's line by the tests of its bytes and items; the pane of a whole screen.
-use Rattle.std.proofs.Common.{◌≡◌, ℕ, ◌+◌, ◌-◌, ◌%◌, ◌^◌, ◌<◌, Bool, true, false, not, ◌&&◌, eqb, List, [], ◌∷◌, length, get_or, sym, refl, ap, ◌∙◌, ap₂, arith, eq-eqb, ne_eqb}
+use Rattle.std.proofs.Common.{◌≡◌, ℕ, ◌+◌, ◌-◌, ◌%◌, ◌^◌, ◌<◌, Bool, true, false, not, ◌&&◌, eqb, List, [], ◌∷◌, length, get_or, sym, refl, ap, ◌∙◌, ap₂, arith, eqb-true}
 use Rattle.raster.specs.declared.frame.Pane.{Pane}
 use Rattle.errand.specs.Numbers.{number_in}
 use Rattle.errand.specs.Panes.{has_no_list, item_at, has_five_items, pane_of, whole}
 
-pub empty-line : (s : List ℕ) → length s ≡ 0 → true ≡ has_no_list s
+pub empty-line : (s : List ℕ) {t : Bool} → t ≡ eqb (length s) 0 → t ≡ true → t ≡ has_no_list s
 unfolding has_no_list
-empty-line [] h = refl
-empty-line (b ∷ bs) h = absurd (omega arith)
+empty-line [] e h = h
+empty-line (b ∷ bs) e h = absurd (omega (arith, eqb-true (length (b ∷ bs)) 0 (sym e ∙ h)))
 
-pub by_first : (s : List ℕ) → (length s ≡ 0 → ⊥) → eqb (get_or s 0 0) 35 ≡ has_no_list s
+pub by_first : (s : List ℕ) {t : Bool} → t ≡ eqb (length s) 0 → t ≡ false → eqb (get_or s 0 0) 35 ≡ has_no_list s
 unfolding has_no_list
-by_first [] n = absurd (n refl)
-by_first (b ∷ bs) n = refl
+by_first [] e h = cc
+by_first (b ∷ bs) e h = refl
 
-module _ (line : List ℕ) {four : List ℕ} (e : four ≡ item_at line 4) where
-  tested : (t : Bool) → eqb (length four) 0 ≡ t → (not t && eqb (length (item_at line 5)) 0) ≡ has_five_items line
+module _ (line : List ℕ) {four : List ℕ} {t : Bool} (f : four ≡ item_at line 4) (e : t ≡ eqb (length four) 0) where
+  tested : {s : Bool} → t ≡ s → (not s && eqb (length (item_at line 5)) 0) ≡ has_five_items line
   unfolding has_five_items
-  tested t h = ap (λ (x : Bool). not x && eqb (length (item_at line 5)) 0) (sym h ∙ ap (λ (i : List ℕ). eqb (length i) 0) e)
+  tested h = ap (λ (x : Bool). not x && eqb (length (item_at line 5)) 0) (sym h ∙ e ∙ ap (λ (i : List ℕ). eqb (length i) 0) f)
 
-  pub no-fifth : length four ≡ 0 → false ≡ has_five_items line
-  no-fifth h = tested true (eq-eqb (length four) 0 h)
+  pub no-fifth : t ≡ true → not t ≡ has_five_items line
+  no-fifth h = ap not h ∙ tested h
 
-  pub no-sixth : (length four ≡ 0 → ⊥) → {five : List ℕ} → five ≡ item_at line 5 → eqb (length five) 0 ≡ has_five_items line
-  no-sixth n f = ap (λ (i : List ℕ). eqb (length i) 0) f ∙ tested false (ne_eqb (length four) 0 n)
+  pub no-sixth : t ≡ false → {five : List ℕ} {u : Bool} → five ≡ item_at line 5 → u ≡ eqb (length five) 0 → u ≡ has_five_items line
+  no-sixth h g k = k ∙ ap (λ (i : List ℕ). eqb (length i) 0) g ∙ tested h
 
 abbrev paned : ℕ → ℕ → ℕ → ℕ → Pane
 paned l t r b = record { left = l; top = t; right = r; bottom = b }

@@ -1,30 +1,36 @@
 -- The place behind the last '/', byte by byte; the name of a list's file, its folder and its own name one behind the other.
-use Rattle.std.proofs.Common.{◌≡◌, ℕ, suc, ◌+◌, ◌-◌, ◌<◌, ◌≤◌, min, Bool, true, false, cond, eqb, List, [], ◌∷◌, ◌++◌, length, get_or, take, drop, sym, refl, ap, ◌∙◌, ap₂, add-one, arith, length-append, drop_of_length-le, drop-cons}
+use Rattle.std.proofs.Common.{◌≡◌, ℕ, zero, suc, ◌+◌, ◌-◌, ◌<◌, ◌≤◌, min, Bool, true, false, not, cond, eqb, List, [], ◌∷◌, ◌++◌, length, get_or, take, sym, refl, ap, ◌∙◌, ap₂, arith, length-append, eq-eqb, ne_eqb, eqb-true}
 use lib.Seq.{sets, length-sets}
 use Rattle.text.proofs.Joining.{joined}
 use Rattle.errand.specs.Paths.{behind_slash, from_top, folder_for, beside_of}
 
--- what the bytes from i on make of what was found is what all bytes make of nothing
-pub record Sought (path : List ℕ) (found i : ℕ) : Type 0 where
-  pub inside : i ≤ length path
-  pub left : behind_slash found i (drop i path) ≡ behind_slash 0 0 path
+-- where no slash is to come, what was found stays; else the last one is what is found
+stays : (found i : ℕ) (bs : List ℕ) → ((k : ℕ) → k < length bs → get_or bs k 0 ≡ 47 → ⊥) → found ≡ behind_slash found i bs
+unfolding behind_slash
+stays found i [] h = refl
+stays found i (b ∷ bs) h =
+    stays found (suc i) bs (λ k l. h (suc k) (omega arith))
+    ∙ ap (λ (t : Bool). behind_slash (cond t (suc i) found) (suc i) bs) (sym (ne_eqb b 47 (h 0 (omega arith))))
 
-module _ {path : List ℕ} {found i : ℕ} (c : Sought path found i) where
-  pub one_byte : i < length path → {now : ℕ} → now ≡ cond (eqb (get_or path i 0) 47) (suc i) found → Sought path now (i + 1)
-  unfolding behind_slash
-  one_byte h {now} e =
-      record {
-        inside = omega arith;
-        left =
-            ap (λ (j : ℕ). behind_slash now j (drop j path)) (add-one i)
-            ∙ ap (λ (f : ℕ). behind_slash f (suc i) (drop (suc i) path)) e
-            ∙ sym (ap (behind_slash found i) (drop-cons path i 0 h))
-            ∙ c.left;
-      }
+pub no_slash : (path : List ℕ) → ((k : ℕ) → k < length path → get_or path k 0 ≡ 47 → ⊥) → 0 ≡ behind_slash 0 0 path
+no_slash path h = stays 0 0 path h
 
-  pub no_more : length path ≤ i → found ≡ behind_slash 0 0 path
-  unfolding behind_slash
-  no_more h = sym (ap (behind_slash found i) (drop_of_length-le path h)) ∙ c.left
+last_of : (found i : ℕ) (bs : List ℕ) (j : ℕ) → j < length bs → get_or bs j 0 ≡ 47 → ((k : ℕ) → j < k → k < length bs → get_or bs k 0 ≡ 47 → ⊥)
+    → suc i + j ≡ behind_slash found i bs
+unfolding behind_slash
+last_of found i [] j l e h = absurd (omega arith)
+last_of found i (b ∷ bs) zero l e h =
+    let on : suc i + 0 ≡ suc i = omega arith in
+    on
+    ∙ stays (suc i) (suc i) bs (λ k m. h (suc k) (omega arith) (omega arith))
+    ∙ ap (λ (t : Bool). behind_slash (cond t (suc i) found) (suc i) bs) (sym (eq-eqb b 47 e))
+last_of found i (b ∷ bs) (suc j) l e h =
+    let on : suc i + suc j ≡ suc (suc i) + j = omega arith in
+    on ∙ last_of (cond (eqb b 47) (suc i) found) (suc i) bs j (omega arith) e (λ k m n. h (suc k) (omega arith) (omega arith))
+
+pub last_slash : (path : List ℕ) {j : ℕ} → j < length path → get_or path j 0 ≡ 47 → ((k : ℕ) → j < k → k < length path → get_or path k 0 ≡ 47 → ⊥)
+    → j + 1 ≡ behind_slash 0 0 path
+last_slash path {j} l e h = let on : j + 1 ≡ 1 + j = omega arith in on ∙ last_of 0 0 path j l e h
 
 -- it is within the path
 by_byte : (t : Bool) (found i : ℕ) (bs : List ℕ) → behind_slash (suc i) (suc i) bs ≤ suc i + length bs → behind_slash found (suc i) bs ≤ suc i + length bs
@@ -38,15 +44,15 @@ within found i [] h = omega arith
 within found i (b ∷ bs) h = by_byte (eqb b 47) found i bs (within (suc i) (suc i) bs (omega arith)) (within found (suc i) bs (omega arith))
 
 -- ---- the folder that a name needs
-pub no_name : (name : List ℕ) → length name ≡ 0 → false ≡ from_top name
+pub no_name : (name : List ℕ) {t : Bool} → t ≡ eqb (length name) 0 → t ≡ true → not t ≡ from_top name
 unfolding from_top
-no_name [] h = refl
-no_name (b ∷ bs) h = absurd (omega arith)
+no_name [] e h = ap not h
+no_name (b ∷ bs) e h = absurd (omega (arith, eqb-true (length (b ∷ bs)) 0 (sym e ∙ h)))
 
-pub by_first : (name : List ℕ) → (length name ≡ 0 → ⊥) → eqb (get_or name 0 0) 47 ≡ from_top name
+pub by_first : (name : List ℕ) {t : Bool} → t ≡ eqb (length name) 0 → t ≡ false → eqb (get_or name 0 0) 47 ≡ from_top name
 unfolding from_top
-by_first [] n = absurd (n refl)
-by_first (b ∷ bs) n = refl
+by_first [] e h = cc
+by_first (b ∷ bs) e h = refl
 
 module _ (page name : List ℕ) {t : Bool} (e : t ≡ from_top name) where
   pub from_above : t ≡ true → [] ≡ folder_for page name

@@ -1,6 +1,7 @@
 -- Words are put one by one, as far as the room goes.
-use Rattle.std.proofs.Common.{◌≡◌, ℕ, suc, ◌+◌, ◌-◌, ◌<◌, ◌≤◌, min, List, [], ◌∷◌, length, get_or, drop, set, sym, refl, ap, ◌∙◌, add-one, arith, length-drop, length-set, drop-cons}
+use Rattle.std.proofs.Common.{◌≡◌, ℕ, suc, ◌+◌, ◌*◌, ◌-◌, ◌/◌, ◌<◌, ◌≤◌, min, List, [], ◌∷◌, length, get_or, drop, set, sym, refl, ap, ◌∙◌, add-one, arith, length-drop, length-set, drop-cons}
 use lib.Seq.{sets}
+use native.Mathlib.Decide.{dec_lt}
 use Rattle.text.proofs.Joining.{sets-out}
 use Rattle.errand.specs.Words.{word, words_in}
 
@@ -23,32 +24,37 @@ few (x ∷ (y ∷ ys)) h = absurd (omega arith)
 pub none_left : (s : List ℕ) (i : ℕ) → length s - i ≤ 1 → words_in (drop i s) ≡ []
 none_left s i h = few (drop i s) (omega (arith, length-drop i s))
 
-pub record Puts (bytes words₀ words : List ℕ) (from i at : ℕ) : Type 0 where
-  pub inside : i ≤ length bytes
+-- a word for two bytes
+pub halved : (s : List ℕ) → length (words_in s) ≡ length s / 2
+unfolding words_in
+halved [] = refl
+halved (x ∷ []) = refl
+halved (x ∷ (y ∷ ys)) = omega (arith, halved ys)
+
+-- the first i words are put, and what is still to be put leaves what all words leave
+pub record Puts (bytes words₀ words : List ℕ) (i : ℕ) : Type 0 where
   pub long : length words ≡ length words₀
-  pub counted : at + min (length (words_in (drop i bytes))) (length words₀ - at) ≡ from + min (length (words_in bytes)) (length words₀ - from)
-  pub stored : sets words at (words_in (drop i bytes)) ≡ sets words₀ from (words_in bytes)
+  pub stored : sets words i (words_in (drop (2 * i) bytes)) ≡ sets words₀ 0 (words_in bytes)
 
-module _ {bytes words₀ words : List ℕ} {from i at : ℕ} (c : Puts bytes words₀ words from i at) where
-  pub no_room : length words ≤ at → (at ≡ from + min (length (words_in bytes)) (length words₀ - from)) × (words ≡ sets words₀ from (words_in bytes))
-  no_room h = (omega (arith, c.counted, c.long), sym (sets-out words at (words_in (drop i bytes)) h) ∙ c.stored)
+module _ {bytes words₀ words : List ℕ} {i : ℕ} (c : Puts bytes words₀ words i) where
+  pub all_put : i ≡ min (length words) (length bytes / 2) → words ≡ sets words₀ 0 (words_in bytes)
+  all_put e = by (dec_lt i (length words))
+    where
+      by : Dec (i < length words) → words ≡ sets words₀ 0 (words_in bytes)
+      by (yes room) = sym (ap (sets words i) (none_left bytes (2 * i) (omega (arith, e)))) ∙ c.stored
+      by (no full) = sym (sets-out words i (words_in (drop (2 * i) bytes)) (omega (arith, full))) ∙ c.stored
 
-  pub no_bytes : length bytes - i ≤ 1 → (at ≡ from + min (length (words_in bytes)) (length words₀ - from)) × (words ≡ sets words₀ from (words_in bytes))
-  no_bytes h =
-      let none = none_left bytes i h in
-      (omega (arith, c.counted, ap length none), sym (ap (sets words at) none) ∙ c.stored)
-
-  pub one_word : 1 < length bytes - i → at < length words → {w : ℕ} → w ≡ word (get_or bytes i 0) (get_or bytes (i + 1) 0)
-      → Puts bytes words₀ (set words at w) from (i + 2) (at + 1)
+  pub one_word : 2 * i + 1 < length bytes → i < length words → {w : ℕ} → w ≡ word (get_or bytes (2 * i) 0) (get_or bytes (2 * i + 1) 0)
+      → Puts bytes words₀ (set words i w) (i + 1)
   one_word h l {w} e =
-      let opened = two-on bytes i h in
+      let opened = two-on bytes (2 * i) (omega arith) in
+      let on : 2 * (i + 1) ≡ 2 * i + 2 = omega arith in
       record {
-        inside = omega arith;
-        long = length-set words at w ∙ c.long;
-        counted = omega (arith, c.counted, c.long, ap length opened);
+        long = length-set words i w ∙ c.long;
         stored =
-            ap (λ (j : ℕ). sets (set words at w) j (words_in (drop (i + 2) bytes))) (add-one at)
-            ∙ ap (λ (v : ℕ). sets words at (v ∷ words_in (drop (i + 2) bytes))) e
-            ∙ sym (ap (sets words at) opened)
+            ap (λ (j : ℕ). sets (set words i w) (i + 1) (words_in (drop j bytes))) on
+            ∙ ap (λ (j : ℕ). sets (set words i w) j (words_in (drop (2 * i + 2) bytes))) (add-one i)
+            ∙ ap (λ (v : ℕ). sets words i (v ∷ words_in (drop (2 * i + 2) bytes))) e
+            ∙ sym (ap (sets words i) opened)
             ∙ c.stored;
       }

@@ -1,5 +1,4 @@
 -- What the contracts cite.
-pub mod Spans
 pub mod Numbers
 pub mod Panes
 pub mod Words

@@ -1,7 +1,5 @@
 -- A number as arguments and pages give it.
-use Rattle.std.specs.Prelude.{ℕ, Bool, true, false, List}
-use Rattle.text.specs.declared.number.Number.{Number}
-use Rattle.text.specs.declared.number.Number.TheVariants.{Is, Wrong}
+use Rattle.std.specs.Prelude.{ℕ, Bool, true, false, Result, Ok, Err, List}
 use Rattle.text.specs.declared.number.Flaw.{Flaw}
 use Rattle.text.specs.declared.number.Flaw.TheVariants.{Foreign, Large}
 use Rattle.text.specs.Number.{decimal_of, at_most}
@@ -10,9 +8,9 @@ use Rattle.text.specs.Number.{decimal_of, at_most}
 abbrev pub beyond : ℕ
 beyond = 1000001
 
-abbrev pub or_beyond : Number → ℕ
-or_beyond (Is n) = n
-or_beyond (Wrong f) = beyond
+abbrev pub or_beyond : Result ℕ Flaw → ℕ
+or_beyond (Ok n) = n
+or_beyond (Err f) = beyond
 
 abbrev pub number_in : List ℕ → ℕ
 number_in s = or_beyond (at_most beyond (decimal_of s))
@@ -22,9 +20,9 @@ large Foreign = false
 large Large = true
 
 -- a number, however large
-abbrev pub numeric : Number → Bool
-numeric (Is n) = true
-numeric (Wrong f) = large f
+abbrev pub numeric : Result ℕ Flaw → Bool
+numeric (Ok n) = true
+numeric (Err f) = large f
 
 abbrev pub is_number : List ℕ → Bool
 is_number s = numeric (decimal_of s)

@@ -7,4 +7,3 @@ pub mod line; // a line of a page
 mod number; // a number as arguments and pages give it
 pub mod path; // where a list is looked for, and what a message names
 pub mod say; // lines on standard error
-pub mod span; // where something stands in a text or in a room

@@ -1,9 +1,9 @@
 // A line of a page: LIST LEFT TOP RIGHT BOTTOM.
-ghost use Rattle.std.specs.Prelude.{◌≡◌};
+ghost use Rattle.std.specs.Prelude.{◌≡◌, IfSome};
 ghost use Rattle.errand.specs.Panes.{has_no_list, has_five_items, pane_of};
 
 use crate::number::{is_number, number};
-use crate::say::{complain, no_number};
+use crate::say::{no_number, tell};
 use raster::frame::Pane;
 use text::items::item;
 
@@ -11,37 +11,31 @@ use text::items::item;
 pub fn has_no_list(line: &[u8]) -> bool
     ensures { result ≡ has_no_list line.now }
 {
-    if line.len() == 0 {
-        return true;
-    }
-    line[0] == b'#'
+    line.is_empty() || line[0] == b'#'
 }
 
-// Whether a line is LIST and four numbers; it gets a line where it is not.
-pub fn is_sound(to: &impl Print, line: &[u8], at: &[u8]) -> bool {
+// The pane of a line that is LIST and four numbers; it gets a line where it is not.
+pub fn sound_pane(to: &impl Print, line: &[u8], at: &[u8]) -> Option<Pane>
+    ensures { IfSome result (λ pane. pane ≡ pane_of line.now) }
+{
     if !has_five_items(line) {
-        complain(to, at, b"a line is LIST LEFT TOP RIGHT BOTTOM");
-        return false;
+        tell(to, at, "a line is LIST LEFT TOP RIGHT BOTTOM");
+        return None;
     }
-    let mut k = 0;
-    while k < 4 {
-        let number = item(line, k + 1);
+    for (k, name) in (1..5).zip(["left", "top", "right", "bottom"]) {
+        let number = item(line, k);
         if !is_number(number) {
-            no_number(to, at, item(b"left top right bottom", k), number);
-            return false;
+            no_number(to, at, name, number);
+            return None;
         }
-        k += 1;
     }
-    true
+    Some(pane_of(line))
 }
 
 fn has_five_items(line: &[u8]) -> bool
     ensures { result ≡ has_five_items line.now }
 {
-    if item(line, 4).len() == 0 {
-        return false;
-    }
-    item(line, 5).len() == 0
+    !item(line, 4).is_empty() && item(line, 5).is_empty()
 }
 
 pub fn pane_of(line: &[u8]) -> Pane

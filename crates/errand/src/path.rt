@@ -1,6 +1,7 @@
 // Where a list of a page is looked for, and what a message about a page names.
-ghost use Rattle.std.specs.Prelude.{◌≡◌, suc, ◌^◌, ◌<◌, min, length, if◌then◌else◌, nat_eq};
+ghost use Rattle.std.specs.Prelude.{◌≡◌, ◌≢◌, ◌<◌, ℕ, min, length, slice_index, IfNone, IfSome};
 ghost use Rattle.std.proofs.lemmas.List.Edits.{sets};
+ghost use Rattle.io.specs.Counts.{IsPrefixLen};
 ghost use Rattle.errand.specs.Paths.{behind_slash, from_top, folder_for, beside_of};
 
 use text::join::put;
@@ -10,6 +11,7 @@ use text::join::put;
 pub fn beside(page: &[u8], name: &[u8], room: &mut [u8]) -> usize
     ensures value { result ≡ min (length (beside_of page.now name.now)) (length room.old) }
     ensures room_after { room.new ≡ sets room.old 0 (beside_of page.now name.now) }
+    ensures prefix_len { IsPrefixLen result room.new }
 {
     let at = put(folder(page, name), room, 0);
     put(name, room, at)
@@ -20,56 +22,52 @@ fn folder<'a>(page: &'a [u8], name: &[u8]) -> &'a [u8]
     ensures { result.now ≡ folder_for page.now name.now }
 {
     if is_from_top(name) {
-        return &page[..0];
+        &page[..0]
+    } else {
+        &page[..behind_slash(page)]
     }
-    let n = behind_slash(page);
-    &page[..n]
 }
 
 fn is_from_top(name: &[u8]) -> bool
     ensures { result ≡ from_top name.now }
 {
-    if name.len() == 0 {
-        return false;
-    }
-    name[0] == b'/'
+    !name.is_empty() && name[0] == b'/'
 }
 
 // The place behind the last '/'; 0 where there is none.
 fn behind_slash(path: &[u8]) -> usize
     ensures { result ≡ behind_slash 0 0 path.now }
 {
-    let mut found = 0;
-    let mut i = 0;
-    while i < path.len() {
-        found = behind(path[i], i, found);
-        i += 1;
+    match last_slash(path) {
+        Some(i) => i + 1,
+        None => 0,
     }
-    found
 }
 
-// Behind byte i where that is a '/', else where it was found before.
-fn behind(byte: u8, i: usize, found: usize) -> usize
-    requires { suc i < 2 ^ 64 }
-    ensures { result ≡ (if nat_eq byte 47 then suc i else found) }
+fn last_slash(path: &[u8]) -> Option<usize>
+    ensures none { IfNone result ((k : ℕ) → k < length path.now → slice_index path.now k ≢ 47) }
+    ensures within { IfSome result (λ i. i < length path.now × slice_index path.now i ≡ 47) }
+    ensures last { IfSome result (λ i. (k : ℕ) → i < k → k < length path.now → slice_index path.now k ≢ 47) }
 {
-    if byte == b'/' {
-        return i + 1;
-    }
-    found
+    path.iter().rposition(|byte| *byte == b'/')
 }
 
-// Puts PAGE:LINE into the room, as far as it fits, and answers where it ends.
-pub fn place(page: &[u8], line: u32, room: &mut [u8]) -> usize {
+// Puts PAGE:LINE into the room, as far as it fits, and answers where it ends. By `put` throughout: a page's name may be any bytes, which
+// no format writes.
+pub fn place(page: &[u8], line: u32, room: &mut [u8]) -> usize
+    ensures { IsPrefixLen result room.new }
+{
     let mut digits = [0u8; 20];
-    let n = io::decimal(line as u64, &mut digits);
+    let n = io::decimal(u64::from(line), &mut digits);
     let colon = put(page, room, 0);
     let number = put(b":", room, colon);
     put(&digits[..n], room, number)
 }
 
 // Puts PLACE: NAME into the room, as far as it fits, and answers where it ends.
-pub fn label(place: &[u8], name: &[u8], room: &mut [u8]) -> usize {
+pub fn label(place: &[u8], name: &[u8], room: &mut [u8]) -> usize
+    ensures { IsPrefixLen result room.new }
+{
     let colon = put(place, room, 0);
     let at = put(b": ", room, colon);
     put(name, room, at)

@@ -1,21 +1,36 @@
-// Numbers, to standard output or standard error.
-use errand::say::say;
+// Words and word indices, as sources have them: in hexadecimal.
+ghost use Rattle.std.specs.Prelude.{Some};
+ghost use Rattle.text.specs.Hexadecimal.{hex_digits};
+
 use numbers::place::WordIndex;
+use std::fmt;
 use text::hexadecimal::digits_of;
 
-pub fn decimal(to: &impl Print, n: u32) {
-    let _ = to.print(n);
-}
+// A word by its four digits.
+#[derive(Clone, Copy)]
+pub struct Word(pub u16);
 
-pub fn hexadecimal(to: &impl Print, word: u16) {
-    let digits = digits_of(word);
-    say(to, &digits);
-}
+impl fmt::Display for Word {
+    ghost output = { λ word. Some (hex_digits word.0) };
 
-// A word index, 0 to 65,536, as sources have it.
-pub fn index(to: &impl Print, i: WordIndex) {
-    if 65535 < i.0 {
-        say(to, b"1");
+    fn fmt<W: fmt::Write>(&self, f: &mut fmt::Formatter<W>) -> fmt::Result {
+        let [a, b, c, d] = digits_of(self.0);
+        let (a, b, c, d) = (char::from(a), char::from(b), char::from(c), char::from(d));
+        write!(f, "{a}{b}{c}{d}")
     }
-    hexadecimal(to, (i.0 % 65536) as u16);
+}
+
+// A word index, 0 to 65,536.
+#[derive(Clone, Copy)]
+pub struct Index(pub WordIndex);
+
+impl fmt::Display for Index {
+    fn fmt<W: fmt::Write>(&self, f: &mut fmt::Formatter<W>) -> fmt::Result {
+        let i = self.0.0;
+        if 65535 < i {
+            f.write_char('1')?;
+        }
+        let word = Word((i % 65536) as u16);
+        write!(f, "{word}")
+    }
 }

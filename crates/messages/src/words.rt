@@ -1,26 +1,35 @@
 // A number, and what it means.
-use crate::digits::decimal;
-use errand::say::say;
-use errand::span::{Span, bytes_of};
+use errand::say::tell;
+use std::fmt;
 use wording::{Words, words_for};
 
 // The number that a list is refused with, and what it means.
 pub fn refuse(to: &impl Print, name: &[u8], number: u8) {
-    tell(to, name, number);
-    say(to, b"\n");
+    tell(to, name, Meaning(number));
 }
 
-// NAME: NUMBER, what it means.
-pub fn tell(to: &impl Print, name: &[u8], number: u8) {
-    say(to, name);
-    say(to, b": ");
-    decimal(to, number as u32);
-    say(to, b", ");
-    put_words(to, words_for(number));
+// NUMBER, what it means.
+#[derive(Clone, Copy)]
+pub struct Meaning(pub u8);
+
+impl fmt::Display for Meaning {
+    fn fmt<W: fmt::Write>(&self, f: &mut fmt::Formatter<W>) -> fmt::Result {
+        let number = self.0;
+        let words = Text(words_for(number));
+        write!(f, "{number}, {words}")
+    }
 }
 
-pub(crate) fn put_words(to: &impl Print, words: Words) {
-    let end = words.length as usize;
-    let text = words.text;
-    say(to, bytes_of(&text, Span { from: 0, to: end }));
+// The words for a number, or an opcode's name.
+#[derive(Clone, Copy)]
+pub(crate) struct Text(pub Words);
+
+impl fmt::Display for Text {
+    fn fmt<W: fmt::Write>(&self, f: &mut fmt::Formatter<W>) -> fmt::Result {
+        let length = usize::from(self.0.length);
+        for byte in self.0.text.iter().take(length) {
+            f.write_char(char::from(*byte))?;
+        }
+        Ok(())
+    }
 }

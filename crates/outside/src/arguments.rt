@@ -7,19 +7,17 @@ use std::env::{Env, FillError};
 pub fn arg(env: &impl Env, i: usize, room: &mut [u8]) -> usize
     ensures { IsPrefixLen result room.new }
 {
-    match env.arg(i, room) {
-        Ok(n) => n,
-        Err(_) => 0,
-    }
+    env.arg(i, room).unwrap_or(0)
 }
 
 // How many arguments there are.
 pub fn arg_count(env: &impl Env) -> usize {
-    for i in 0..usize::MAX {
-        let mut room = [0u8; 1];
-        if let Err(FillError::NotPresent) = env.arg(i, &mut room) {
-            return i;
-        }
-    }
-    usize::MAX
+    (0..usize::MAX)
+        .find(|i| is_missing(env, *i))
+        .unwrap_or(usize::MAX)
+}
+
+fn is_missing(env: &impl Env, i: usize) -> bool {
+    let mut room = [0u8; 1];
+    matches!(env.arg(i, &mut room), Err(FillError::NotPresent))
 }

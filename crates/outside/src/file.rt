@@ -18,10 +18,8 @@ pub fn open_read<R: Files>(files: &R, path: &[u8]) -> io::Result<R::File> {
     if PATH < path.len() {
         return Err(Error::from_raw_os_error(ENAMETOOLONG));
     }
-    match str::from_utf8(path) {
-        Ok(path) => fs::open(files, path),
-        Err(_) => Err(Error::from_raw_os_error(EILSEQ)),
-    }
+    let path = str::from_utf8(path).map_err(|_| Error::from_raw_os_error(EILSEQ))?;
+    fs::open(files, path)
 }
 
 // Puts the file's bytes at the start of the room, as far as they fit, and answers how many there are. A first read that fails is an
@@ -36,15 +34,15 @@ pub fn read_file(files: &impl Files, path: &[u8], room: &mut [u8]) -> io::Result
 }
 
 // Reads until the room is full, the file ends or a read fails, and answers how many bytes it put at the start of the room.
+// An index, as `read_exact` doesn't tell how many bytes came before the end or the failure.
 pub fn read_full(file: &mut impl Read, room: &mut [u8]) -> usize
     ensures { IsPrefixLen result room.new }
 {
     let mut done = 0;
     while done < room.len() {
         match file.read(&mut room[done..]) {
-            Ok(0) => break,
+            Ok(0) | Err(_) => break,
             Ok(n) => done += n,
-            Err(_) => break,
         }
     }
     done

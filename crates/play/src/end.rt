@@ -1,11 +1,10 @@
 // How it ended: the program writes a digit to descriptor 3, and ./play exits with that.
 ghost use Rattle.std.specs.Prelude.{◌≡◌};
-ghost use Rattle.play.specs.Ends.{none_yet, with_number, end_of};
+ghost use Rattle.play.specs.Ends.{none_yet, with_number, end_of, status_of};
 
 use outside::file::read_file;
 use std::fs::OpenOptions;
 use std::io::Write;
-use text::items::find;
 
 // There is a picture, the list surely finishes, the mended one is written, or it is told who painted the dot; there is none, it may
 // not, it is not, or the question is refused; the arguments are wrong; there is a picture, but a list was stopped.
@@ -17,6 +16,19 @@ pub enum End {
     Stopped,
 }
 
+impl From<End> for u8 {
+    ghost from_gives = { λ end status. status ≡ status_of end };
+
+    fn from(end: End) -> u8 {
+        match end {
+            End::Done => 0,
+            End::Nothing => 1,
+            End::Wrong => 2,
+            End::Stopped => 3,
+        }
+    }
+}
+
 // Where descriptor 3 is opened again, and where the system says how it was opened.
 const LISTENER: &str = "/dev/fd/3";
 
@@ -24,21 +36,13 @@ const STATE: &[u8] = b"/proc/self/fdinfo/3";
 
 // Where nobody listens there, nothing is told.
 pub fn tell(rt: HostRuntime, end: End) {
-    match end {
-        End::Done => say(rt, b"0\n"),
-        End::Nothing => say(rt, b"1\n"),
-        End::Wrong => say(rt, b"2\n"),
-        End::Stopped => say(rt, b"3\n"),
-    }
-}
-
-fn say(rt: HostRuntime, digit: &[u8]) {
     if !is_to_be_written(rt) {
         return;
     }
     if let Ok(file) = OpenOptions::new().append(true).open(&rt, LISTENER) {
         let mut listener = file;
-        let _ = listener.write_all(digit);
+        let digit = u8::from(end);
+        let _ = writeln!(listener, "{digit}");
     }
 }
 
@@ -53,16 +57,11 @@ fn is_to_be_written(rt: HostRuntime) -> bool {
 
 // The second line ends in an octal digit, whose last two bits are 0 for reading, 1 for writing, 2 for both.
 fn is_for_writing(state: &[u8]) -> bool {
-    let first = find(state, 0, b'\n');
-    if state.len() <= first {
-        return false;
+    let flags = state.split(|byte| *byte == b'\n').nth(1);
+    match flags.and_then(|line| line.last()) {
+        Some(digit) => matches!(*digit % 4, 1 | 2),
+        None => false,
     }
-    let second = find(state, first + 1, b'\n');
-    if state.len() <= second {
-        return false;
-    }
-    let bits = state[second - 1] % 4;
-    bits == 1 || bits == 2
 }
 
 // Whether a list has ended or still runs, as its number is 0 or 1; whether one was stopped.
@@ -72,41 +71,41 @@ pub struct Ends {
     pub stopped: bool,
 }
 
-pub fn none_yet() -> Ends
-    ensures { result ≡ none_yet }
-{
-    Ends {
-        shown: false,
-        stopped: false,
+impl Ends {
+    pub fn none_yet() -> Ends
+        ensures { result ≡ none_yet }
+    {
+        Ends {
+            shown: false,
+            stopped: false,
+        }
     }
-}
 
-// How they ended, with a list more that answered this number.
-pub fn with_number(ends: Ends, number: u8) -> Ends
-    ensures { result ≡ with_number ends number }
-{
-    if number < 2 {
-        return Ends {
-            shown: true,
-            stopped: ends.stopped,
-        };
+    // How they ended, with a list more that answered this number.
+    pub fn with_number(self, number: u8) -> Ends
+        ensures { result ≡ with_number self number }
+    {
+        if number < 2 {
+            Ends {
+                shown: true,
+                ..self
+            }
+        } else {
+            Ends {
+                stopped: true,
+                ..self
+            }
+        }
     }
-    Ends {
-        shown: ends.shown,
-        stopped: true,
-    }
-}
 
-// There is a picture where a list has ended or still runs.
-pub fn end_of(ends: Ends) -> End
-    ensures { result ≡ end_of ends.shown ends.stopped }
-{
-    if !ends.shown {
-        return End::Nothing;
-    }
-    if ends.stopped {
-        End::Stopped
-    } else {
-        End::Done
+    // There is a picture where a list has ended or still runs.
+    pub fn end_of(self) -> End
+        ensures { result ≡ end_of self.shown self.stopped }
+    {
+        match (self.shown, self.stopped) {
+            (false, _) => End::Nothing,
+            (true, false) => End::Done,
+            (true, true) => End::Stopped,
+        }
     }
 }

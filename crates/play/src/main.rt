@@ -11,14 +11,12 @@ mod writer; // who painted a dot
 
 ghost use Rattle.std.specs.Prelude.{◌≡◌, ◌*◌};
 
-use end::{End, end_of, tell};
-use errand::arguments::{Given, Look, Wish, asked};
-use errand::file::{Read, load_page};
-use errand::span::{Span, bytes_of};
-use messages::words::refuse;
+use end::{End, tell};
+use errand::arguments::{Form, Given, Look, Wish, asked};
+use errand::file::load_page;
 use output::write;
 use outside::arguments::arg;
-use page::{Page, empty, fresh, page_of, with_list};
+use page::{Page, Playing, Source, empty, fresh_or_told, page_of, with_list};
 use report::report;
 use slices::rounds;
 use unplayed::check::check_list;
@@ -37,104 +35,85 @@ fn main(rt: HostRuntime) {
 }
 
 fn play(rt: HostRuntime, words: &mut [u16; WORDS]) -> End {
-    let form = asked(rt);
-    match form {
+    match asked(rt) {
+        Some(wish) => ended(rt, wish, words).unwrap_or(End::Nothing),
+        None => End::Wrong,
+    }
+}
+
+// How it ended. Here and in what it calls None says that nothing comes of the wish.
+fn ended(rt: HostRuntime, wish: Wish, words: &mut [u16; WORDS]) -> Option<End> {
+    match wish {
         Wish::List(given, look) => play_list(rt, given, look, words),
         Wish::Page(given, look) => play_page(rt, given, look, words),
-        Wish::Check(at) => only_if(check_list(rt, at, words), End::Done),
-        Wish::Mend(at) => only_if(mend_list(rt, at, words), End::Done),
+        Wish::Check(at) => {
+            check_list(rt, at, words)?;
+            Some(End::Done)
+        }
+        Wish::Mend(at) => {
+            mend_list(rt, at, words)?;
+            Some(End::Done)
+        }
         Wish::Who(given, x, y) => name_writer(rt, given, x, y, words),
-        Wish::Wrong => End::Wrong,
     }
 }
 
-fn play_list(rt: HostRuntime, given: Given, look: Look, words: &mut [u16]) -> End {
+fn play_list(rt: HostRuntime, given: Given, look: Look, words: &mut [u16]) -> Option<End> {
     let mut room = io::buffer();
     let n = arg(&rt, given.first, &mut room);
-    let made = fresh(given);
-    let number = made.number;
-    if number != 0 {
-        refuse(&rt.stderr(), b"play", number);
-        return End::Nothing;
-    }
-    let name = Span { from: 0, to: n };
-    let path = bytes_of(&room, name);
-    let page = with_list(rt, empty(), path, path, name, made.env, given.budget, words);
-    show(rt, page, &room, given, look, words)
+    let path = &room[..n];
+    let env = fresh_or_told(rt, b"play", given)?;
+    let playing = Playing::named(path, env, given.budget);
+    let (page, _) = with_list(rt, empty(), path, path, playing, words)?;
+    show(rt, page, given, look)
 }
 
-fn play_page(rt: HostRuntime, given: Given, look: Look, words: &mut [u16]) -> End {
-    let made = fresh(given);
-    let number = made.number;
-    if number != 0 {
-        refuse(&rt.stderr(), b"play", number);
-        return End::Nothing;
-    }
+fn play_page(rt: HostRuntime, given: Given, look: Look, words: &mut [u16]) -> Option<End> {
+    fresh_or_told(rt, b"play", given)?;
     let mut room = io::buffer();
     let n = arg(&rt, given.first, &mut room);
+    let path = &room[..n];
     let mut text = io::buffer();
-    let path = bytes_of(&room, Span { from: 0, to: n });
-    let Read::To(end) = load_page(rt, path, &mut text) else {
-        return End::Nothing;
-    };
-    let lines = bytes_of(&text, Span { from: 0, to: end });
-    let page = page_of(rt, lines, path, given, words);
-    show(rt, page, lines, given, look, words)
+    let lines = load_page(rt, path, &mut text)?;
+    let source = Source { path, given };
+    let page = page_of(rt, source, lines, words)?;
+    show(rt, page, given, look)
 }
 
-// Draws a page of which no list was refused.
-fn show(rt: HostRuntime, page: Page, names: &[u8], given: Given, look: Look, words: &[u16]) -> End {
-    if !page.sound {
-        return End::Nothing;
-    }
+fn show(rt: HostRuntime, page: Page<'_>, given: Given, look: Look) -> Option<End> {
     let mut room = [0u8; SCREEN];
-    draw(rt, page, names, given, look, words, &mut room)
+    draw(rt, page, given, look, &mut room)
 }
 
 // A callee that takes a reference to an array asks for no proof of its length.
 fn draw(
     rt: HostRuntime,
-    page: Page,
-    names: &[u8],
+    page: Page<'_>,
     given: Given,
     look: Look,
-    words: &[u16],
     room: &mut [u8; SCREEN],
-) -> End {
-    run(rt, page, names, given, look, words, room)
+) -> Option<End> {
+    run(rt, page, given, look, room)
 }
 
 // Runs the lists on as much of the room as the screen is, tells what each answers, and writes the picture where one has
 // ended or still runs.
-fn run(
-    rt: HostRuntime,
-    page: Page,
-    names: &[u8],
-    given: Given,
-    look: Look,
-    words: &[u16],
-    room: &mut [u8],
-) -> End {
-    let dots = area(given.width, given.height);
-    if room.len() < dots {
-        return End::Nothing;
-    }
-    let screen = &mut room[0..dots];
-    let last = rounds(words, screen, page, look.painted);
-    let form = look.form;
-    let end = end_of(report(&rt.stderr(), names, words, last));
-    match end {
-        End::Nothing => end,
-        _ => only_if(
-            write(&rt.stdout(), screen, given.width, given.height, form),
-            end,
-        ),
+fn run(rt: HostRuntime, page: Page<'_>, given: Given, look: Look, room: &mut [u8]) -> Option<End> {
+    let screen = room.get_mut(..area(given.width, given.height))?;
+    let mut page = page;
+    rounds(screen, &mut page, look.painted);
+    match report(&rt.stderr(), &page).end_of() {
+        End::Nothing => None,
+        end => {
+            written(rt, screen, given, look.form)?;
+            Some(end)
+        }
     }
 }
 
-// Where it was not done, as where the picture could not be written, there is nothing.
-fn only_if(done: bool, end: End) -> End {
-    if done { end } else { End::Nothing }
+// None where the picture could not be written.
+fn written(rt: HostRuntime, screen: &[u8], given: Given, form: Form) -> Option<()> {
+    write(&rt.stdout(), screen, given.width, given.height, form).ok()
 }
 
 fn area(width: u32, height: u32) -> usize

@@ -1,235 +1,172 @@
 // The lists of a page.
-ghost use Rattle.std.specs.Prelude.{◌≡◌, ◌<◌};
-ghost use Rattle.play.specs.Pages.{refused as refusedPage, with_playing};
+ghost use Rattle.std.specs.Prelude.{◌≡◌, ◌<◌, IfSome};
+ghost use Rattle.play.specs.Pages.{with_playing};
 
 use errand::arguments::{BUDGET, Given};
-use errand::file::{Read, load_list};
-use errand::line::{has_no_list, is_sound, pane_of};
+use errand::file::load_list;
+use errand::line::{has_no_list, sound_pane};
 use errand::path::{beside, label, place};
-use errand::say::complain;
-use errand::span::{Span, bytes_of};
+use errand::say::tell;
 use messages::words::refuse;
-use raster::frame::Pane;
-use rules::answer::Made;
 use rules::environment::Env;
-use text::items::find;
+use text::items::item;
 
-// A list in play: its environment, where its name and its words stand, what is left of its budget, its steps and its last number.
+// A list in play: its environment, its name and its words, what is left of its budget, its steps and its last number.
 #[derive(Clone, Copy)]
-pub struct Playing {
+pub struct Playing<'a> {
     pub env: Env,
-    pub name: Span,
-    pub words: Span,
+    pub name: &'a [u8],
+    pub list: &'a [u16],
     pub left: u32,
     pub steps: u32,
     pub number: u8,
 }
 
-pub const PLACES: usize = 8;
-
-// The first `count` places are taken, and the first `used` words of the room. It is not sound where a list was refused.
-#[derive(Clone, Copy)]
-pub struct Page {
-    pub lists: [Playing; PLACES],
-    pub count: usize,
-    pub used: usize,
-    pub sound: bool,
-}
-
-pub fn empty() -> Page {
-    let nowhere = Span { from: 0, to: 0 };
-    let corner = Pane {
-        left: 0,
-        top: 0,
-        right: 0,
-        bottom: 0,
-    };
-    let made = ovenlute::fresh(0, 0, corner);
-    let env = made.env;
-    let vacant = Playing {
-        env,
-        name: nowhere,
-        words: nowhere,
-        left: 0,
-        steps: 0,
-        number: 0,
-    };
-    Page {
-        lists: [vacant; PLACES],
-        count: 0,
-        used: 0,
-        sound: true,
-    }
-}
-
-fn refused(page: Page) -> Page
-    ensures { result ≡ refusedPage page }
-{
-    let mut p = page;
-    p.sound = false;
-    p
-}
-
-// The page that the lines of a text make.
-pub fn page_of(rt: HostRuntime, text: &[u8], path: &[u8], given: Given, words: &mut [u16]) -> Page {
-    let mut page = empty();
-    let mut from = 0;
-    let mut number = 0;
-    while from < text.len() {
-        let to = find(text, from, b'\n');
-        number = std::num::wrapping_add_u32(number, 1);
-        page = with_line(
-            rt,
-            page,
-            text,
-            Span { from, to },
-            path,
-            number,
-            given,
-            words,
-        );
-        if !page.sound {
-            return page;
-        }
-        from = to + 1;
-    }
-    with_some_list(rt, page, path)
-}
-
-fn with_some_list(rt: HostRuntime, page: Page, path: &[u8]) -> Page {
-    if page.count == 0 {
-        complain(&rt.stderr(), path, b"a page without a list");
-        return refused(page);
-    }
-    page
-}
-
-// The page with the list of line `number` more.
-fn with_line(
-    rt: HostRuntime,
-    page: Page,
-    text: &[u8],
-    line: Span,
-    path: &[u8],
-    number: u32,
-    given: Given,
-    words: &mut [u16],
-) -> Page {
-    let s = bytes_of(text, line);
-    if has_no_list(s) {
-        return page;
-    }
-    let mut room = io::buffer();
-    let n = place(path, number, &mut room);
-    let at = bytes_of(&room, Span { from: 0, to: n });
-    if !is_sound(&rt.stderr(), s, at) {
-        return refused(page);
-    }
-    let mut g = given;
-    g.pane = pane_of(s);
-    let made = fresh(g);
-    let refusal = made.number;
-    if refusal != 0 {
-        refuse(&rt.stderr(), at, refusal);
-        return refused(page);
-    }
-    let from = line.from;
-    let name = Span {
-        from,
-        to: find(text, from, b' '),
-    };
-    with_file(
-        rt,
-        page,
-        at,
-        path,
-        bytes_of(text, name),
-        name,
-        made.env,
-        given.budget,
-        words,
-    )
-}
-
-// The page with the list of that name more, which is looked for beside the page.
-fn with_file(
-    rt: HostRuntime,
-    page: Page,
-    at: &[u8],
-    path: &[u8],
-    name: &[u8],
-    span: Span,
-    env: Env,
-    budget: u32,
-    words: &mut [u16],
-) -> Page {
-    let mut file = io::buffer();
-    let mut told = io::buffer();
-    let n = beside(path, name, &mut file);
-    let m = label(at, name, &mut told);
-    with_list(
-        rt,
-        page,
-        bytes_of(&file, Span { from: 0, to: n }),
-        bytes_of(&told, Span { from: 0, to: m }),
-        span,
-        env,
-        budget,
-        words,
-    )
-}
-
-// The page with one list more, in a file; `told` is what a message calls it, and `name` where its name stands for the report.
-pub fn with_list(
-    rt: HostRuntime,
-    page: Page,
-    path: &[u8],
-    told: &[u8],
-    name: Span,
-    env: Env,
-    budget: u32,
-    words: &mut [u16],
-) -> Page {
-    if PLACES <= page.count {
-        complain(&rt.stderr(), told, b"a page has 8 lists at most");
-        return refused(page);
-    }
-    let from = page.used;
-    let Read::To(to) = load_list(rt, path, told, words, from) else {
-        return refused(page);
-    };
-    with_playing(
-        page,
+impl<'a> Playing<'a> {
+    // Before its words are read.
+    pub fn named(name: &'a [u8], env: Env, budget: u32) -> Playing<'a> {
         Playing {
             env,
             name,
-            words: Span { from, to },
+            list: &[],
             left: budget,
             steps: 0,
             number: 0,
-        },
-    )
-}
-
-// A fresh environment; 14 where the budget is too large.
-pub fn fresh(given: Given) -> Made {
-    let mut made = ovenlute::fresh(given.width, given.height, given.pane);
-    if made.number == 0 {
-        if BUDGET < given.budget {
-            made.number = 14;
         }
     }
-    made
 }
 
-fn with_playing(page: Page, playing: Playing) -> Page
-    requires { page.count < 8 }
-    ensures { result ≡ with_playing playing page }
+const PLACES: usize = 8;
+
+#[derive(Clone, Copy)]
+pub struct Page<'a> {
+    pub lists: [Option<Playing<'a>>; PLACES],
+}
+
+pub fn empty<'a>() -> Page<'a> {
+    Page {
+        lists: [None; PLACES],
+    }
+}
+
+// What a page is read with: its file's name, and what is given for each of its lists.
+#[derive(Clone, Copy)]
+pub struct Source<'a> {
+    pub path: &'a [u8],
+    pub given: Given,
+}
+
+// The page that the lines of a text make, whose words go into the room; or a line has told why there is none. The first line stands
+// before the loop, as a page may not come to hold a part of the room within it.
+pub fn page_of<'a>(
+    rt: HostRuntime,
+    source: Source<'_>,
+    text: &'a [u8],
+    words: &'a mut [u16],
+) -> Option<Page<'a>> {
+    let mut lines = text.split(|byte| *byte == b'\n');
+    let first = lines.next().unwrap_or(&[]);
+    let (mut page, mut room) = with_line(rt, source, empty(), first, 1, words)?;
+    for (line, number) in lines.zip(2..=u32::MAX) {
+        let (more, rest) = with_line(rt, source, page, line, number, room)?;
+        page = more;
+        room = rest;
+    }
+    if vacant(&page) == Some(0) {
+        tell(&rt.stderr(), source.path, "a page without a list");
+        return None;
+    }
+    Some(page)
+}
+
+// The page with the list of line `number` more, if it has one, and the rest of the room.
+fn with_line<'a>(
+    rt: HostRuntime,
+    source: Source<'_>,
+    page: Page<'a>,
+    line: &'a [u8],
+    number: u32,
+    words: &'a mut [u16],
+) -> Option<(Page<'a>, &'a mut [u16])> {
+    if has_no_list(line) {
+        return Some((page, words));
+    }
+    let mut room = io::buffer();
+    let n = place(source.path, number, &mut room);
+    let at = &room[..n];
+    let pane = sound_pane(&rt.stderr(), line, at)?;
+    let given = Given {
+        pane,
+        ..source.given
+    };
+    let env = fresh_or_told(rt, at, given)?;
+    let playing = Playing::named(item(line, 0), env, given.budget);
+    with_file(rt, source.path, page, at, playing, words)
+}
+
+// The page with the list of that name more, which is looked for beside the page.
+fn with_file<'a>(
+    rt: HostRuntime,
+    path: &[u8],
+    page: Page<'a>,
+    at: &[u8],
+    playing: Playing<'a>,
+    words: &'a mut [u16],
+) -> Option<(Page<'a>, &'a mut [u16])> {
+    let mut file = io::buffer();
+    let mut told = io::buffer();
+    let n = beside(path, playing.name, &mut file);
+    let m = label(at, playing.name, &mut told);
+    with_list(rt, page, &file[..n], &told[..m], playing, words)
+}
+
+// The page with one list more, in a file, and the rest of the room; `told` is what a message calls it.
+pub fn with_list<'a>(
+    rt: HostRuntime,
+    page: Page<'a>,
+    path: &[u8],
+    told: &[u8],
+    playing: Playing<'a>,
+    words: &'a mut [u16],
+) -> Option<(Page<'a>, &'a mut [u16])> {
+    let Some(at) = vacant(&page) else {
+        tell(&rt.stderr(), told, "a page has 8 lists at most");
+        return None;
+    };
+    let (list, rest) = load_list(rt, path, told, words)?;
+    let page = with_playing(page, at, Playing { list, ..playing });
+    Some((page, rest))
+}
+
+// The first place that no list has taken.
+fn vacant(page: &Page<'_>) -> Option<usize>
+    ensures { IfSome result (λ at. at < 8) }
 {
-    let at = page.count;
+    page.lists.iter().position(|list| list.is_none())
+}
+
+fn with_playing<'a>(page: Page<'a>, at: usize, playing: Playing<'a>) -> Page<'a>
+    requires { at < 8 }
+    ensures { result ≡ with_playing playing.entry at page.entry }
+{
     let mut p = page;
-    p.lists[at] = playing;
-    p.count = at + 1;
-    p.used = playing.words.to;
+    p.lists[at] = Some(playing);
     p
+}
+
+// A fresh environment, or the number that it is refused with; 14 where the budget is too large.
+fn fresh(given: Given) -> Result<Env, u8> {
+    let made = ovenlute::fresh(given.width, given.height, given.pane);
+    match made.number {
+        0 if BUDGET < given.budget => Err(14),
+        0 => Ok(made.env),
+        number => Err(number),
+    }
+}
+
+// The same; or a line has told the number.
+pub fn fresh_or_told(rt: HostRuntime, name: &[u8], given: Given) -> Option<Env> {
+    fresh(given)
+        .map_err(|number| refuse(&rt.stderr(), name, number))
+        .ok()
 }

@@ -1,45 +1,34 @@
 // The lines of the lists that were played, on standard error.
-use crate::end::{Ends, none_yet, with_number};
-use crate::page::{PLACES, Page, Playing};
-use errand::say::say;
-use errand::span::{bytes_of, words_of};
-use messages::digits::{decimal, index};
-use messages::place::tell_place;
-use messages::words::tell;
+use crate::end::Ends;
+use crate::page::{Page, Playing};
+use errand::say::tell;
+use messages::digits::Index;
+use messages::place::Place;
+use messages::words::Meaning;
 
 // A line for each list; answers how they ended.
-pub fn report(to: &impl Print, names: &[u8], words: &[u16], page: Page) -> Ends {
-    let mut ends = none_yet();
-    let mut k = 0;
-    while k < PLACES {
-        if page.count <= k {
-            return ends;
-        }
-        let playing = page.lists[k];
-        line(
-            to,
-            bytes_of(names, playing.name),
-            words_of(words, playing.words),
-            playing,
-        );
-        ends = with_number(ends, playing.number);
-        k += 1;
+pub fn report(to: &impl Print, page: &Page<'_>) -> Ends {
+    let mut ends = Ends::none_yet();
+    for playing in page.lists.iter().flatten() {
+        line(to, playing);
+        ends = ends.with_number(playing.number);
     }
     ends
 }
 
-fn line(to: &impl Print, name: &[u8], list: &[u16], playing: Playing) {
-    let counter = playing.env.registers.counter;
+fn line(to: &impl Print, playing: &Playing<'_>) {
     let number = playing.number;
-    tell(to, name, number);
-    if 20 <= number {
-        tell_place(to, list, number, counter, playing.env.registers.place);
-    }
-    say(to, b": steps ");
-    decimal(to, playing.steps);
-    say(to, b", counter ");
-    index(to, counter);
-    say(to, b" (");
-    decimal(to, counter.0);
-    say(to, b")\n");
+    let opcode = playing.env.registers.counter;
+    let meaning = Meaning(number);
+    let place = Place {
+        list: playing.list,
+        number,
+        opcode,
+        place: playing.env.registers.place,
+    };
+    let steps = playing.steps;
+    let index = Index(opcode);
+    let counter = opcode.0;
+    let what = format_args!("{meaning}{place}: steps {steps}, counter {index} ({counter})");
+    tell(to, playing.name, what);
 }

@@ -1,8 +1,7 @@
 // Runs the lists of a page in turn, a slice of its budget each.
 ghost use Rattle.std.specs.Prelude.{◌≤◌};
 
-use crate::page::{PLACES, Page, Playing};
-use errand::span::words_of;
+use crate::page::{Page, Playing};
 use rules::answer::Answer;
 use rules::environment::Env;
 
@@ -11,62 +10,51 @@ const SLICE: u32 = 1_000;
 
 const SLICES: u32 = 1_000;
 
-// Each list to its end, to a stop, or to the end of its budget.
-pub fn rounds(words: &[u16], screen: &mut [u8], page: Page, painted: bool) -> Page {
-    let mut p = page;
-    let mut n = 0;
-    while n < SLICES {
-        p = round(words, screen, p, painted);
-        n += 1;
+// Each list to its end, to a stop, or to the end of its budget; where it is to be seen who painted what, in the opcodes' own colours.
+pub fn rounds(screen: &mut [u8], page: &mut Page<'_>, painted: bool) {
+    if painted {
+        rounds_by(tint::tinted, screen, page);
+    } else {
+        rounds_by(ovenlute::run, screen, page);
     }
-    p
+}
+
+fn rounds_by<R: Fn(&[u16], &mut [u8], Env, u32) -> Answer>(
+    run: R,
+    screen: &mut [u8],
+    page: &mut Page<'_>,
+)
+    requires { R.IsAlwaysCallable run }
+{
+    for _ in 0..SLICES {
+        round(&run, screen, page);
+    }
 }
 
 // One slice of each list. A list that has ended or stopped answers its number again.
-fn round(words: &[u16], screen: &mut [u8], page: Page, painted: bool) -> Page {
-    let mut p = page;
-    let mut k = 0;
-    while k < PLACES {
-        if p.count <= k {
-            return p;
-        }
-        let playing = p.lists[k];
-        p.lists[k] = slice(words, screen, playing, painted);
-        k += 1;
+fn round<R: Fn(&[u16], &mut [u8], Env, u32) -> Answer>(
+    run: &R,
+    screen: &mut [u8],
+    page: &mut Page<'_>,
+)
+    requires { R.IsAlwaysCallable run.now }
+{
+    for playing in page.lists.iter_mut().flatten() {
+        let budget = playing.left.min(SLICE);
+        let answer = run(playing.list, screen, playing.env, budget);
+        *playing = ran(*playing, budget, answer);
     }
-    p
-}
-
-fn slice(words: &[u16], screen: &mut [u8], playing: Playing, painted: bool) -> Playing {
-    let left = playing.left;
-    if left < SLICE {
-        return ran(words, screen, playing, left, painted);
-    }
-    ran(words, screen, playing, SLICE, painted)
 }
 
 // The list after `budget` of what is left of its budget.
-fn ran(words: &[u16], screen: &mut [u8], playing: Playing, budget: u32, painted: bool) -> Playing
+fn ran<'a>(playing: Playing<'a>, budget: u32, answer: Answer) -> Playing<'a>
     requires { budget ≤ playing.left }
 {
-    let name = playing.name;
-    let span = playing.words;
-    let answer = answered(words_of(words, span), screen, playing.env, budget, painted);
-    let env = answer.env;
     Playing {
-        env,
-        name,
-        words: span,
+        env: answer.env,
         left: playing.left - budget,
-        steps: std::num::wrapping_add_u32(playing.steps, answer.steps),
+        steps: playing.steps.wrapping_add(answer.steps),
         number: answer.number,
+        ..playing
     }
-}
-
-// What the box answers; or, where it is to be seen who painted what, the same run in the opcodes' own colours.
-fn answered(list: &[u16], screen: &mut [u8], env: Env, budget: u32, painted: bool) -> Answer {
-    if painted {
-        return tint::tinted(list, screen, env, budget);
-    }
-    ovenlute::run(list, screen, env, budget)
 }

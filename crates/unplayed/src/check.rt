@@ -1,43 +1,39 @@
 // Tells whether a list surely finishes: to standard output in how many steps it does, or to standard error why it may not.
 use checker::Checked;
-use errand::file::{Read, load_list};
-use errand::say::say;
-use errand::span::{Span, bytes_of, words_of};
-use messages::digits::decimal;
+use errand::file::load_list;
+use errand::say::tell;
 use messages::place::tell_fault;
 use outside::arguments::arg;
 
-// The list whose name is argument `at`; answers whether it surely finishes.
-pub fn check_list(rt: HostRuntime, at: usize, words: &mut [u16]) -> bool {
+// The list whose name is argument `at`. None where it may not finish, and a line has told why.
+pub fn check_list(rt: HostRuntime, at: usize, words: &mut [u16]) -> Option<()> {
     let mut room = io::buffer();
     let n = arg(&rt, at, &mut room);
-    let name = bytes_of(&room, Span { from: 0, to: n });
-    let Read::To(to) = load_list(rt, name, name, words, 0) else {
-        return false;
-    };
-    judged(rt, name, words_of(words, Span { from: 0, to }))
+    let name = &room[..n];
+    let (list, _) = load_list(rt, name, name, words)?;
+    judged(rt, name, list)
 }
 
-fn judged(rt: HostRuntime, name: &[u8], list: &[u16]) -> bool {
-    let checked = checked(list);
-    let number = checked.number;
-    if number != 0 {
-        tell_fault(&rt.stderr(), name, list, number, checked.place);
-        return false;
+fn judged(rt: HostRuntime, name: &[u8], list: &[u16]) -> Option<()> {
+    match checked(list) {
+        Ok(steps) => {
+            let what = format_args!("surely finishes: steps {steps}");
+            tell(&rt.stdout(), name, what);
+            Some(())
+        }
+        Err(fault) => {
+            tell_fault(&rt.stderr(), name, list, fault.number, fault.place);
+            None
+        }
     }
-    tell_steps(&rt.stdout(), name, checked.steps);
-    true
 }
 
-// What the checker says, with none of its promises: no proof here leans on them.
-fn checked(list: &[u16]) -> Checked {
-    checker::check(list)
-}
-
-// NAME: surely finishes: steps STEPS
-fn tell_steps(out: &impl Print, name: &[u8], steps: u32) {
-    say(out, name);
-    say(out, b": surely finishes: steps ");
-    decimal(out, steps);
-    say(out, b"\n");
+// The steps, or the checker's refusal: what it says, with none of its promises, as no proof here leans on them.
+fn checked(list: &[u16]) -> Result<u32, Checked> {
+    let checked = checker::check(list);
+    if checked.number == 0 {
+        Ok(checked.steps)
+    } else {
+        Err(checked)
+    }
 }

@@ -2,8 +2,9 @@
 use Rattle.errand.proofs.Lines.{no-fifth, no-sixth}
 use Rattle.errand.proofs.line.has_five_items.Goals as goal
 
-pub returns-then-item-eq0 : goal.returns-then-item-eq0
-returns-then-item-eq0 c = no-fifth _ c.item.ensures c.if-item-eq0.true
+pub returns-then-not-is_empty : goal.returns-then-not-is_empty
+returns-then-not-is_empty c =
+    no-sixth _ c.item.ensures c.is_empty.ensures c.if-not-is_empty.true c.item-then-not-is_empty.ensures c.is_empty-then-not-is_empty.ensures
 
-pub returns : goal.returns
-returns c = no-sixth _ c.item.ensures c.if-item-eq0.false c.item-2.ensures
+pub returns-else-not-is_empty : goal.returns-else-not-is_empty
+returns-else-not-is_empty c = no-fifth _ c.item.ensures c.is_empty.ensures c.if-not-is_empty.false

@@ -2,8 +2,8 @@
 use Rattle.errand.proofs.Lines.{empty-line, by_first}
 use Rattle.errand.proofs.line.has_no_list.Goals as goal
 
-pub returns-then-line-eq0 : goal.returns-then-line-eq0
-returns-then-line-eq0 c = empty-line _ c.if-line-eq0.true
+pub returns-then-is_empty : goal.returns-then-is_empty
+returns-then-is_empty c = empty-line _ c.is_empty.ensures c.if-is_empty.true
 
-pub returns : goal.returns
-returns c = by_first _ c.if-line-eq0.false
+pub returns-else-is_empty : goal.returns-else-is_empty
+returns-else-is_empty c = by_first _ c.is_empty.ensures c.if-is_empty.false

@@ -1,15 +1,9 @@
--- `errand::path::behind_slash` meets its contract: what the bytes behind make of what was found is what all make of nothing.
-use Rattle.std.proofs.Common.{refl, arith}
-use Rattle.errand.proofs.Paths.{one_byte, no_more}
+-- `errand::path::behind_slash` meets its contract: the last slash is the last that is found byte by byte.
+use Rattle.errand.proofs.Paths.{no_slash, last_slash}
 use Rattle.errand.proofs.path.behind_slash.Goals as goal
 
-pub loop-i-init : goal.loop-i-init
-loop-i-init c = record { inside = omega arith; left = refl }
+pub returns-in-Some : goal.returns-in-Some
+returns-in-Some c = last_slash _ c.in-Some.ensures.within.0 c.in-Some.ensures.within.1 c.in-Some.ensures.last
 
-pub loop-i-preserved : goal.loop-i-preserved
-loop-i-preserved c =
-    let t = c.before.before in
-    one_byte t.loop-i.invariant t.loop-i-test.true c.behind-found.ensures
-
-pub returns : goal.returns
-returns c = no_more c.loop-i.invariant c.loop-i-test.false
+pub returns-in-None : goal.returns-in-None
+returns-in-None c = no_slash _ c.in-None.ensures.none

@@ -2,11 +2,8 @@
 use Rattle.errand.proofs.Paths.{ends, put_whole}
 use Rattle.errand.proofs.path.beside.Goals as goal
 
-pub returns : goal.returns
-returns c =
-    let second = c.before.before in
-    let first = second.before.before.before.before in
-    let f = first.folder.ensures in
-    let at = first.put-at.ensures.value in
-    let put = first.put-at.ensures.room_after in
-    record { value = ends _ _ _ f at put second.put.ensures.value; room_after = put_whole _ _ _ f at put second.put.ensures.room_after }
+pub returns-clause-value : goal.returns-clause-value
+returns-clause-value c = ends _ _ _ c.folder.ensures c.put-at.ensures.value c.put-at.ensures.room_after c.put.ensures.value
+
+pub returns-clause-room_after : goal.returns-clause-room_after
+returns-clause-room_after c = put_whole _ _ _ c.folder.ensures c.put-at.ensures.value c.put-at.ensures.room_after c.put.ensures.room_after

@@ -2,8 +2,8 @@
 use Rattle.errand.proofs.Paths.{no_name, by_first}
 use Rattle.errand.proofs.path.is_from_top.Goals as goal
 
-pub returns-then-name-eq0 : goal.returns-then-name-eq0
-returns-then-name-eq0 c = no_name _ c.if-name-eq0.true
+pub returns-then-not-is_empty : goal.returns-then-not-is_empty
+returns-then-not-is_empty c = by_first _ c.is_empty.ensures c.if-not-is_empty.true
 
-pub returns : goal.returns
-returns c = by_first _ c.if-name-eq0.false
+pub returns-else-not-is_empty : goal.returns-else-not-is_empty
+returns-else-not-is_empty c = no_name _ c.is_empty.ensures c.if-not-is_empty.false
