@@ -62,7 +62,8 @@ fn repeat_fits(r: Repeat) -> bool
 fn repeats_fit(stack: &Stack) -> bool
     ensures { result ≡ Door.repeats_fit (firsts over stack.now.nesting stack.now.repeats) }
 {
-    stack.nesting <= 8 && stack.repeats.iter().take(stack.nesting as usize).all(|r| repeat_fits(*r))
+    let repeats: &[Repeat] = &stack.repeats;
+    stack.nesting <= 8 && repeats[..stack.nesting as usize].iter().all(|r| repeat_fits(*r))
 }
 
 fn pen_fits(r: Registers) -> bool

@@ -46,13 +46,15 @@ pub fn turns<I: Ink>(
     }
     for steps in 0..budget {
         let opcode = registers.counter;
-        match step(words, registers, vars, stack) {
-            Ok(None) => {}
-            Ok(Some(brush)) => paint(screen, frame(b, &*registers), dipped(brush, ink, opcode)),
+        let painting = match step(words, registers, vars, stack) {
+            Ok(painting) => painting,
             Err(refusal) => {
                 registers.stop(refusal);
                 return steps;
             }
+        };
+        if let Some(brush) = painting {
+            paint(screen, frame(b, &*registers), dipped(brush, ink, opcode));
         }
         if registers.state != 0 {
             return steps + 1;

@@ -1,19 +1,12 @@
 -- `door`: the first test that fails gives the number.
 use mathlib.Core.Path.{sym, ◌∙◌}
-use native.Mathlib.Omega.{arith}
-use Rattle.player.proofs.Doors.{area_small, is-10, is-11, is-12, is-13, is-14, is-0}
+use Rattle.player.proofs.Doors.{is-10, is-11, is-12, is-13, is-14, is-0}
 use Rattle.rules.specs.Door.{door}
 use Rattle.run.proofs.door.door.Goals as goal
 
 pub returns-then-not-size_fits : goal.returns-then-not-size_fits
 unfolding door
 returns-then-not-size_fits c w vs n = is-10 _ _ _ _ (sym c.size_fits.ensures ∙ c.if-not-size_fits.true)
-
-pub overflow_mul-b : goal.overflow_mul-b
-overflow_mul-b c = omega (arith, area_small c.args.b (sym c.size_fits.ensures ∙ c.if-not-size_fits.false))
-
-pub overflow_cast-b : goal.overflow_cast-b
-overflow_cast-b c = omega (arith, area_small c.args.b (sym c.size_fits.ensures ∙ c.if-not-size_fits.false))
 
 pub returns-then-bytes-b : goal.returns-then-bytes-b
 unfolding door
