@@ -27,20 +27,23 @@ module _ {A : Type 0} (test : A → Bool) where
   all_of [] h = refl
   all_of (x ∷ xs) h = both (test x) (every test xs) (All-head Passes x xs h) (all_of xs (All-tail Passes x xs h))
 
-  pub every-is : (xs : List A) (b : Bool) → ((b ≡ true) ↔ All Passes xs) → b ≡ every test xs
-  every-is xs true h = sym (all_of xs (h.0 refl))
-  every-is xs false h = by-every (every test xs) refl
+  decided : (xs : List A) (b : Bool) → ((b ≡ true) ↔ All Passes xs) → b ≡ every test xs
+  decided xs true h = sym (all_of xs (h.0 refl))
+  decided xs false h = by-every (every test xs) refl
     where
       by-every : (t : Bool) → every test xs ≡ t → false ≡ t
       by-every true e = h.1 (each xs e)
       by-every false e = refl
 
--- of a list that has n, the first n
-pub firsts-take : {A : Type 0} (d : A) (n : ℕ) (xs : List A) → n ≤ length xs → firsts d n xs ≡ take n xs
-unfolding firsts
-firsts-take d zero xs h = refl
-firsts-take d (suc n) [] h = absurd (omega (arith, h))
-firsts-take {A} d (suc n) (x ∷ xs) h = ap (λ (t : List A). x ∷ t) (firsts-take d n xs (omega (arith, h)))
+  -- the first n of a list that has so many
+  first : (d : A) (n : ℕ) (xs : List A) → n ≤ length xs → firsts d n xs ≡ take n xs
+  unfolding firsts
+  first d zero xs h = refl
+  first d (suc n) [] h = absurd (omega (arith, h))
+  first d (suc n) (x ∷ xs) h = ap (λ (t : List A). x ∷ t) (first d n xs (omega (arith, h)))
+
+  pub first-pass : (d : A) (n : ℕ) (xs : List A) (b : Bool) → n ≤ length xs → ((b ≡ true) ↔ All Passes (take n xs)) → b ≡ every test (firsts d n xs)
+  first-pass d n xs b h is = decided (take n xs) b is ∙ ap (every test) (sym (first d n xs h))
 
 -- ---- no refusal at the door has the number 0
 pub unfit-some : (u : Unfit) → unfit_number u ≡ 0 → ⊥

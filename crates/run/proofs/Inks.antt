@@ -3,7 +3,7 @@ use Prim.Native.Nat.{ℕ}
 use mathlib.Core.Path.{◌≡◌, refl, ap, ap₂, ◌∙◌}
 use mathlib.Core.Bool.{false}
 use mathlib.Core.List.{List}
-use Rattle.std.specs.Prelude.{Ok, Err, Some, None}
+use Rattle.std.specs.Prelude.{Option, Ok, Err, Some, None}
 use Rattle.raster.specs.declared.frame.Frame.{Frame}
 use Rattle.raster.specs.Shapes.{moved_by}
 use Rattle.raster.specs.Paint.{paint}
@@ -15,7 +15,6 @@ use Rattle.player.specs.declared.Verdict.{Verdict}
 use Rattle.player.specs.Painting.{placed}
 use Rattle.player.specs.Player.{Outcome, done, refused, Player}
 use Rattle.player.specs.Hosted.{Request, Hosted, answered}
-use Rattle.player.specs.Run.{Answer}
 use Rattle.player.specs.Shown.{went, halted, marks}
 use Rattle.player.proofs.Turning.{Turned, turned-painting}
 use Rattle.rules.specs.Environment.{Env, frame}
@@ -39,21 +38,21 @@ module _ (h : Hue) (w : List ℕ) (e : Env) (u : Upshot) (e₁ : Env) (as-shown 
   tells = ap (recoloured (h e.flow.counter)) as-shown ∙ shown-recoloured (h e.flow.counter) (step w e) e
 
   -- nothing is painted
-  pub quiet-in : u ≡ Ok None → {s s₁ : List ℕ} → s₁ ≡ s → Turned (inked h (afgis w)) e s e₁ s₁
-  quiet-in is {s = s} x =
+  pub quiet-in : {o : Option Brush} → u ≡ Ok o → o ≡ None → {s s₁ : List ℕ} → s₁ ≡ s → Turned (inked h (afgis w)) e s e₁ s₁
+  quiet-in is none-held {s = s} x =
       record {
         dots = record { bounds = e₁.bounds; dots = λ x y. false; colour = h e.flow.counter 0 };
         screen = x ∙ none (λ k. false) (h e.flow.counter 0) s (λ k l t. t);
-        shows = rw is at tells;
+        shows = rw (is, none-held) at tells;
       }
 
   -- the brush is painted, dipped into the ink
-  pub painted-in : {p : Brush} (d : Brush) → u ≡ Ok (Some p) → d.figure ≡ p.figure → d.colour ≡ h e.flow.counter p.colour
+  pub painted-in : {o : Option Brush} {p : Brush} (d : Brush) → u ≡ Ok o → o ≡ Some p → d.figure ≡ p.figure → d.colour ≡ h e.flow.counter p.colour
       → {s s₁ : List ℕ} {f : Frame} → f ≡ frame e₁ → s₁ ≡ paint f (moved_by f.origin (shape_of d.figure)) d.colour s
       → Turned (inked h (afgis w)) e s e₁ s₁
-  painted-in {p} d is figure colour {s = s} same x =
+  painted-in {p = p} d is some figure colour {s = s} same x =
       turned-painting (inked h (afgis w)) frame e s {u = Ok (Some d)} e₁
-      (ap₂ (λ (g : Figure) (c : ℕ). went e₁ (marks (placed (frame e₁) (shape_of g) c))) figure colour ∙ rw is at tells)
+      (ap₂ (λ (g : Figure) (c : ℕ). went e₁ (marks (placed (frame e₁) (shape_of g) c))) figure colour ∙ rw (is, some) at tells)
       refl same x
 
   -- it is refused

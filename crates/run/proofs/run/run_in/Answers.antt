@@ -1,9 +1,7 @@
 -- `run_in`: refused at the door, or let in with what the loop relies on.
-use Rattle.std.proofs.Common.{◌≡◌, ℕ, List, ap, refl, sym, ◌∙◌, length}
-use Rattle.std.specs.Prelude.{Ok, Err}
+use Rattle.std.proofs.Common.{ℕ, List, ap, refl, sym, ◌∙◌, length}
 use Rattle.player.specs.Run.{answer}
 use Rattle.player.specs.Shown.{verdict_of}
-use Rattle.player.specs.Refusals.{door_number}
 use Rattle.player.specs.Hosted.{Request}
 use Rattle.player.proofs.Doors.{refused-whole, run-whole}
 use Rattle.rules.specs.Environment.{held}
