@@ -1,51 +1,54 @@
 -- The door's tests as the program makes them.
-use Prim.Native.Nat.{ℕ, zero, suc, ◌+◌, ◌<◌}
+use Prim.Native.Nat.{ℕ, zero, suc, ◌≤◌}
 use mathlib.Core.Path.{◌≡◌, refl, sym, ap, ◌∙◌}
-use mathlib.Core.Bool.{Bool, true, false, ◌&&◌, and-false}
+use mathlib.Core.Bool.{Bool, true, false}
 use mathlib.Core.List.{List, [], ◌∷◌}
 use native.Mathlib.Omega.{arith}
-use native.Mathlib.Numerals.{add-one}
-use lib.ListN.{length, get_or}
-use Rattle.numbers.specs.declared.place.WordIndex.{WordIndex}
-use Rattle.rules.specs.Environment.{Env, start, firsts}
-use Rattle.rules.specs.Door.{every, door}
+use lib.ListN.{length, take}
+use Rattle.std.specs.Prelude.{All, ◌↔◌}
+use Rattle.std.proofs.lemmas.List.Elements.{All-cons, All-nil, All-head, All-tail}
+use Rattle.player.specs.declared.refusal.Unfit.{Unfit}
+use Rattle.player.specs.declared.refusal.Unfit.TheVariants as Unfits
+use Rattle.player.specs.Refusals.{unfit_number}
+use Rattle.rules.specs.Environment.{firsts}
+use Rattle.rules.specs.Door.{every}
 use Rattle.rules.proofs.Ranges.{both, one, other}
-use Rattle.rules.proofs.DoorLaws.{Open, opened}
-use Rattle.lent.specs.Lent.{returns}
-use Rattle.lent.proofs.StackLaws.{return-at}
 
--- ---- what is stacked or open, one after the other: t is what the test says of the one at i
-module _ {A : Type 0} (test : A → Bool) (d : A) where
-  missed : (n i : ℕ) (xs : List A) → i < n → test (get_or xs i d) ≡ false → false ≡ every test (firsts d n xs)
+-- ---- what is stacked or open: b is what the program says of the first n
+module _ {A : Type 0} (test : A → Bool) where
+  abbrev pub Passes : A → Type 0
+  Passes x = test x ≡ true
+
+  each : (xs : List A) → every test xs ≡ true → All Passes xs
+  each [] h = All-nil Passes
+  each (x ∷ xs) h = All-cons Passes x xs (one (test x) _ h) (each xs (other (test x) _ h))
+
+  all_of : (xs : List A) → All Passes xs → every test xs ≡ true
+  all_of [] h = refl
+  all_of (x ∷ xs) h = both (test x) (every test xs) (All-head Passes x xs h) (all_of xs (All-tail Passes x xs h))
+
+  decided : (xs : List A) (b : Bool) → ((b ≡ true) ↔ All Passes xs) → b ≡ every test xs
+  decided xs true h = sym (all_of xs (h.0 refl))
+  decided xs false h = by-every (every test xs) refl
+    where
+      by-every : (t : Bool) → every test xs ≡ t → false ≡ t
+      by-every true e = h.1 (each xs e)
+      by-every false e = refl
+
+  -- the first n of a list that has so many
+  first : (d : A) (n : ℕ) (xs : List A) → n ≤ length xs → firsts d n xs ≡ take n xs
   unfolding firsts
-  missed zero i xs h p = absurd (omega (arith, h))
-  missed (suc n) zero [] h p = sym (rw p)
-  missed (suc n) (suc i) [] h p = sym (and-false (test d)) ∙ ap (λ (t : Bool). test d && t) (missed n i [] (omega (arith, h)) p)
-  missed (suc n) zero (x ∷ xs) h p = sym (rw p)
-  missed (suc n) (suc i) (x ∷ xs) h p = sym (and-false (test x)) ∙ ap (λ (t : Bool). test x && t) (missed n i xs (omega (arith, h)) p)
+  first d zero xs h = refl
+  first d (suc n) [] h = absurd (omega (arith, h))
+  first d (suc n) (x ∷ xs) h = ap (λ (t : List A). x ∷ t) (first d n xs (omega (arith, h)))
 
-  next : (i : ℕ) (xs : List A) → every test (firsts d i xs) ≡ true → test (get_or xs i d) ≡ true → every test (firsts d (suc i) xs) ≡ true
-  unfolding firsts
-  next zero [] h p = both (test d) true p refl
-  next zero (x ∷ xs) h p = both (test x) true p refl
-  next (suc i) [] h p = both (test d) _ (one _ _ h) (next i [] (other (test d) _ h) p)
-  next (suc i) (x ∷ xs) h p = both (test x) _ (one _ _ h) (next i xs (other (test x) _ h) p)
+  pub first-pass : (d : A) (n : ℕ) (xs : List A) (b : Bool) → n ≤ length xs → ((b ≡ true) ↔ All Passes (take n xs)) → b ≡ every test (firsts d n xs)
+  first-pass d n xs b h is = decided (take n xs) b is ∙ ap (every test) (sym (first d n xs h))
 
-  module _ (i : ℕ) (xs : List A) {x : A} {t : Bool} (at : x ≡ get_or xs i d) (is : t ≡ test x) where
-    tested : test (get_or xs i d) ≡ t
-    tested = ap test (sym at) ∙ sym is
-
-    pub bad : (n : ℕ) → i < n → t ≡ false → false ≡ every test (firsts d n xs)
-    bad n h p = missed n i xs h (tested ∙ p)
-
-    pub good : every test (firsts d i xs) ≡ true → t ≡ true → every test (firsts d (i + 1) xs) ≡ true
-    good h p = rw add-one (next i xs h (tested ∙ p))
-
--- the index stacked at i, as it is lent
-pub stacked-is : (st : List ℕ) (i : ℕ) → i < 16 → {k : WordIndex} → k.0 ≡ get_or st i 0 → k ≡ get_or (returns st) i start
-stacked-is st i h at = (λ j. record { 0 = at j }) ∙ sym (return-at st i h)
-
--- ---- what is let in, by the number d that the door said
-pub let-in : (w s : List ℕ) (e : Env) (budget d : ℕ) → d ≡ door (record { list = w; budget = budget }) e (length s) → d ≡ 0
-    → Open (record { list = w; budget = budget }) e (length s)
-let-in w s e budget d is h = opened (record { list = w; budget = budget }) e (length s) (sym is ∙ h)
+-- ---- no refusal at the door has the number 0
+pub unfit-some : (u : Unfit) → unfit_number u ≡ 0 → ⊥
+unfit-some Unfits.Size h = omega (arith, h)
+unfit-some Unfits.Screen h = omega (arith, h)
+unfit-some Unfits.Field h = omega (arith, h)
+unfit-some Unfits.List h = omega (arith, h)
+unfit-some Unfits.Budget h = omega (arith, h)

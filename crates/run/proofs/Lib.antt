@@ -1,7 +1,7 @@
 pub mod Doors
+pub mod Inks
 pub mod Stepping
 pub mod Going
-pub mod Lending
 pub mod Refusals
 pub mod Sides
 pub mod Slices

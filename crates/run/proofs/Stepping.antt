@@ -1,34 +1,48 @@
 -- What an opcode leaves is in range and may be drawn on; and the state's number and place.
 use Prim.Native.Nat.{ℕ, ◌*◌, ◌≤◌}
-use mathlib.Core.Path.{◌≡◌, refl, subst}
+use mathlib.Core.Path.{◌≡◌, refl, sym, ap, subst}
 use mathlib.Core.Bool.{Bool, true, false, cond}
 use mathlib.Core.List.{List}
 use native.Mathlib.Omega.{arith}
 use borrow.Author.Tests.{leb-true, eq-eqb, ne_eqb}
 use lib.ListN.{length}
 use lib.Dec.{eqb}
+use Rattle.raster.specs.declared.frame.Bounds.{Bounds}
 use Rattle.raster.specs.declared.frame.Frame.{Frame}
 use Rattle.raster.specs.Frame.{Fitting}
 use Rattle.player.specs.declared.Verdict.{Verdict}
+use Rattle.player.specs.declared.State.{State}
 use Rattle.player.specs.declared.State.TheVariants.{Running, Ended, Stopped}
 use Rattle.player.specs.Player.{Outcome, done, refused}
-use Rattle.player.specs.Shown.{Marks, went, shown}
+use Rattle.player.specs.Shown.{went, halted}
 use Rattle.player.proofs.Runs.{Leaves}
-use Rattle.rules.specs.Environment.{Env, carries0, state_of, frame}
+use Rattle.rules.specs.declared.environment.Registers.{Registers}
+use Rattle.rules.specs.Environment.{Env, env, pen_of, flow_of, carries0, state_of, frame}
 use Rattle.rules.specs.Step.{step, afgis}
 use Rattle.rules.specs.Door.{between, size_fits, state_fits, fits}
 use Rattle.rules.proofs.Ranges.{one, Fits, joined, parted}
 use Rattle.rules.proofs.Kept.{step_keeps}
 use Rattle.rules.proofs.DoorLaws.{fitting}
+use Rattle.rules.proofs.Unique.{stopped-state}
+use Rattle.lent.specs.declared.Stack.{Stack}
+use Rattle.lent.specs.Lent.{look}
+use Rattle.lent.specs.Shown.{Shown, stop, shown}
+use Rattle.run.specs.Inks.{outcome_by}
 
--- ---- what is left is in range
+-- ---- what is left is in range, in whatever colours
+abbrev pub left_in : Shown → Env
+left_in (went e m) = e
+left_in (halted e) = e
+
 module _ (w : List ℕ) (few : length w ≤ 65536) (e : Env) (h : fits e ≡ true) where
-  went-fits : (o : Outcome Env) → Leaves (afgis w) (Fits e.bounds) e o → (e₁ : Env) (m : Marks) → went e₁ m ≡ shown (afgis w).stop o e → Fits e.bounds e₁
-  went-fits (done e' p) l e₁ m q = let r : e' ≡ e₁ = cc in subst (Fits e.bounds) r l
-  went-fits (refused v) l e₁ m q = let z : ◌≡◌ {A = ℕ} 0 1 = cc in absurd (omega (arith, z))
+  shown-fits : (f : ℕ → ℕ) (o : Outcome Env) → Leaves (afgis w) (Fits e.bounds) e o → Fits e.bounds (left_in (shown (outcome_by f o) e))
+  shown-fits f (done e' p) l = l
+  shown-fits f (refused v) l = l
 
-  pub leaves-fits : (e₁ : Env) (m : Marks) → went e₁ m ≡ shown (afgis w).stop (step w e) e → fits e₁ ≡ true
-  leaves-fits e₁ m q = joined e₁ (went-fits (step w e) (step_keeps w few e.bounds e (parted e h)) e₁ m q)
+  pub leaves-fits : (f : ℕ → ℕ) {x : Shown} → x ≡ shown (outcome_by f (step w e)) e → fits (left_in x) ≡ true
+  leaves-fits f {x} q =
+      joined (left_in x)
+      (subst (λ (y : Shown). Fits e.bounds (left_in y)) (sym q) (shown-fits f (step w e) (step_keeps w few e.bounds e (parted e h))))
 
 -- what may be drawn on, f, is the frame of such an environment
 pub may-draw : {f : Frame} (e : Env) (s : List ℕ) → f ≡ frame e → size_fits e.bounds ≡ true → fits e ≡ true → length s ≡ e.bounds.width * e.bounds.height
@@ -57,3 +71,10 @@ not-running v h q = at_one (carries0 v 1) (rw (ne_eqb v.number 0 h) at q)
     at_one : (t : Bool) → cond t Ended (Stopped v) ≡ Running → ⊥
     at_one true p = let z : ◌≡◌ {A = ℕ} 0 1 = cc in omega (arith, z)
     at_one false p = let z : ◌≡◌ {A = ℕ} 0 1 = cc in omega (arith, z)
+
+-- registers that were stopped with a number in range stand for the stopped environment
+pub stopped : (b : Bounds) (r : Registers) {r₁ : Registers} (vs : List ℕ) (st : Stack) (v : Verdict) → state_fits (Stopped v) ≡ true
+    → r₁ ≡ record r { state = v.number; place = v.place } → look b r₁ vs st ≡ stop v (look b r vs st)
+stopped b r vs st v h is =
+    rw is
+    (ap (λ (q : State). env b vs (pen_of r) (flow_of r st.returns st.nesting st.repeats) q) (stopped-state v (omega (arith, least v h))))

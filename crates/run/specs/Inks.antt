@@ -1,7 +1,6 @@
 -- A player whose opcodes paint in the colours of an ink, told by the opcode's word index and its own colour, and do all else alike.
 use Rattle.std.specs.Prelude.{ℕ}
 use Rattle.numbers.specs.declared.place.WordIndex.{WordIndex}
-use Rattle.player.specs.Painting.{Painting}
 use Rattle.player.specs.Player.{Outcome, done, refused, Player}
 use Rattle.player.specs.Tinted.{in_colour}
 use Rattle.rules.specs.Environment.{Env}

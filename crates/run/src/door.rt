@@ -48,7 +48,8 @@ fn index_fits(i: WordIndex) -> bool
 fn stack_fits(stack: &Stack, depth: u32) -> bool
     ensures { result ≡ Door.stack_fits (firsts start depth stack.now.returns) }
 {
-    depth <= 16 && stack.returns.iter().take(depth as usize).all(|i| index_fits(*i))
+    let returns: &[WordIndex] = &stack.returns;
+    depth <= 16 && returns[..depth as usize].iter().all(|i| index_fits(*i))
 }
 
 // A word index and 1 to 1,000 passes left.
@@ -62,7 +63,11 @@ fn repeat_fits(r: Repeat) -> bool
 fn repeats_fit(stack: &Stack) -> bool
     ensures { result ≡ Door.repeats_fit (firsts over stack.now.nesting stack.now.repeats) }
 {
-    stack.nesting <= 8 && stack.repeats.iter().take(stack.nesting as usize).all(|r| repeat_fits(*r))
+    let repeats: &[Repeat] = &stack.repeats;
+    stack.nesting <= 8
+        && repeats[..stack.nesting as usize]
+            .iter()
+            .all(|r| repeat_fits(*r))
 }
 
 fn pen_fits(r: Registers) -> bool

@@ -17,7 +17,7 @@ pub trait Ink {
 pub struct Own;
 
 impl Ink for Own {
-    ghost hue: { λ ink opcode own. own };
+    ghost hue = { λ ink opcode own. own };
 
     fn colour(&self, opcode: WordIndex, own: u8) -> u8 {
         own

@@ -46,10 +46,12 @@ pub fn run_in<I: Ink>(list: &[u16], screen: &mut [u8], env: Env, budget: u32, in
     let bounds = env.bounds;
     let mut registers = env.registers;
     let mut variables = env.variables;
+    let returns = env.stack;
+    let repeats = env.repeats;
     let mut stack = Stack {
-        returns: env.stack,
+        returns,
         nesting: env.nesting,
-        repeats: env.repeats,
+        repeats,
     };
     if let Err(unfit) = door(list.len(), screen.len(), bounds, registers, &stack, budget) {
         return refused(unfit.number(), env);
@@ -65,6 +67,8 @@ pub fn run_in<I: Ink>(list: &[u16], screen: &mut [u8], env: Env, budget: u32, in
         budget,
     );
     let verdict = verdict_of(state_of(registers));
+    let returns = stack.returns;
+    let repeats = stack.repeats;
     Answer {
         number: verdict.number,
         place: verdict.place,
@@ -72,9 +76,9 @@ pub fn run_in<I: Ink>(list: &[u16], screen: &mut [u8], env: Env, budget: u32, in
             bounds,
             registers,
             variables,
-            stack: stack.returns,
+            stack: returns,
             nesting: stack.nesting,
-            repeats: stack.repeats,
+            repeats,
         },
         steps,
     }

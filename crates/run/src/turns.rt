@@ -1,4 +1,4 @@
-// One opcode after the other: the state comes first, then the budget, then the opcode, and what it paints.
+// One opcode after the other while the budget lasts: the state comes first, then the opcode, and what it paints.
 ghost use Rattle.std.specs.Prelude.{◌≡◌};
 ghost use Rattle.player.specs.Run.{runs};
 ghost use Rattle.rules.specs.Step.{afgis};
@@ -25,7 +25,7 @@ fn dipped<I: Ink>(brush: Brush, ink: &I, opcode: WordIndex) -> Brush
     }
 }
 
-// How many were carried out. The state is asked as the run begins and behind each opcode, so it runs wherever the loop is.
+// How many were carried out.
 pub fn turns<I: Ink>(
     words: &[u16],
     b: Bounds,
@@ -41,21 +41,20 @@ pub fn turns<I: Ink>(
         ≡ runs (inked (I.hue ink.now) (afgis words.now)) budget
         (look b registers.old vars.old stack.old) screen.old 0 }
 {
-    if registers.state != 0 {
-        return 0;
-    }
     for steps in 0..budget {
+        if registers.state != 0 {
+            return steps;
+        }
         let opcode = registers.counter;
-        match step(words, registers, vars, stack) {
-            Ok(None) => {}
-            Ok(Some(brush)) => paint(screen, frame(b, &*registers), dipped(brush, ink, opcode)),
+        let painting = match step(words, registers, vars, stack) {
+            Ok(painting) => painting,
             Err(refusal) => {
                 registers.stop(refusal);
                 return steps;
             }
-        }
-        if registers.state != 0 {
-            return steps + 1;
+        };
+        if let Some(brush) = painting {
+            paint(screen, frame(b, &*registers), dipped(brush, ink, opcode));
         }
     }
     budget

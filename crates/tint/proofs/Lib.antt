@@ -1,4 +1,4 @@
 -- What follows from the rules:
 pub mod Shows
 -- The laws that proofs cite:
-pub mod Dipped
+pub mod Hues

@@ -15,7 +15,7 @@ use run::run::run_in;
 pub struct Tint;
 
 impl Ink for Tint {
-    ghost hue: { λ ink opcode own. tint opcode };
+    ghost hue = { λ ink opcode own. tint opcode };
 
     fn colour(&self, opcode: WordIndex, own: u8) -> u8 {
         tint_of(opcode)
