@@ -20,7 +20,7 @@ pub record Ready (w : List ℕ) (b : Bounds) (r : Registers) (vs : List ℕ) (st
 abbrev pub pixel : ℕ → ℕ → Dot
 pixel column row = record { x = pos column; y = pos row }
 
--- a coordinate as a column or a row: above every side where it is negative
+-- a number for a coordinate, above every side where it is negative
 pub record Unsigned (z : ℤ) (n : ℕ) : Type 0 where
   pub from_0 : le_z (pos 0) z ≡ true → pos n ≡ z
   pub negative : le_z (pos 0) z ≡ false → n ≡ 0xFFFFFFFF

@@ -36,7 +36,7 @@ fn named(before: Writer, f: Frame, brush: Brush, d: Pixel, step: u32, opcode: Wo
     }
 }
 
-// The state is asked as the run begins and behind each opcode, so it runs wherever the loop is.
+// Who wrote the dot last.
 pub fn last_writer(
     words: &[u16],
     b: Bounds,
@@ -52,20 +52,17 @@ pub fn last_writer(
         (look b registers.old vars.old stack.old) budget (pixel d.column d.row) }
 {
     let mut writer = saying(0);
-    if registers.state != 0 {
-        return writer;
-    }
     for steps in 0..budget {
-        let opcode = registers.counter;
-        let Ok(painted) = step(words, registers, vars, stack) else {
-            return writer;
-        };
-        if let Some(brush) = painted {
-            let f = frame(b, &*registers);
-            writer = named(writer, f, brush, d, steps + 1, opcode);
-        }
         if registers.state != 0 {
             return writer;
+        }
+        let opcode = registers.counter;
+        let Ok(painting) = step(words, registers, vars, stack) else {
+            return writer;
+        };
+        if let Some(brush) = painting {
+            let f = frame(b, &*registers);
+            writer = named(writer, f, brush, d, steps + 1, opcode);
         }
     }
     writer

@@ -1,25 +1,15 @@
 -- `who`: refused at the door or for its dot, or what the loop found.
-use Rattle.std.proofs.Common.{◌≡◌, ℕ, ◌*◌, List, sym, ap, ◌∙◌, refl, arith}
+use Rattle.std.proofs.Common.{◌≡◌, ℕ, ◌*◌, List, sym, ap, ◌∙◌, refl}
 use Rattle.raster.specs.declared.dots.Dot.{Dot}
-use Rattle.player.specs.declared.refusal.Unfit.{Unfit}
-use Rattle.player.specs.declared.refusal.Unfit.TheVariants as Unfits
-use Rattle.player.specs.Refusals.{unfit_number}
 use Rattle.player.specs.Hosted.{Request}
 use Rattle.rules.specs.declared.environment.Env as Held
 use Rattle.rules.specs.Environment.{held}
 use Rattle.rules.specs.Door as Door
 use Rattle.rules.proofs.DoorLaws.{Open, opened}
+use Rattle.run.proofs.Doors.{unfit-some}
 use Rattle.who.specs.Who.{door, saying, found}
 use Rattle.who.proofs.Numbers.{refused, outside, inside}
 use Rattle.who.proofs.who.Goals as goal
-
--- a refusal's number is not 0
-numbered : (u : Unfit) → unfit_number u ≡ 0 → ⊥
-numbered Unfits.Size z = omega (arith, z)
-numbered Unfits.Screen z = omega (arith, z)
-numbered Unfits.Field z = omega (arith, z)
-numbered Unfits.List z = omega (arith, z)
-numbered Unfits.Budget z = omega (arith, z)
 
 -- ---- the door was asked of the environment that came in, and of a screen of its size
 module _ (w : List ℕ) (e : Held.Env) (budget : ℕ) where
@@ -43,7 +33,7 @@ returns-in-Err c =
     let n = c.number.ensures in
     c.saying.ensures
     ∙ refused a.list.now (held a.env) a.budget a.dot _ (n ∙ said a.list.now a.env a.budget (c.in-Err.ensures a.list.now a.env.variables refl) c.area.ensures)
-    (λ z. numbered c.in-Err.unfit (sym n ∙ z))
+    (λ z. unfit-some c.in-Err.unfit (sym n ∙ z))
 
 pub pixel_of-requires : goal.pixel_of-requires
 pixel_of-requires c = let a = c.args in (opening a.list.now a.env a.budget (c.in_default.ensures a.list.now a.env.variables refl) c.area.ensures).size

@@ -2,7 +2,6 @@
 use Rattle.std.proofs.Common.{◌≡◌, ℕ, suc, ◌-◌, List}
 use Rattle.raster.specs.declared.frame.Bounds.{Bounds}
 use Rattle.raster.specs.declared.dots.Dot.{Dot}
-use Rattle.player.specs.declared.State.TheVariants.{Running}
 use Rattle.player.proofs.Writings as Writings
 use Rattle.rules.specs.declared.environment.Registers.{Registers}
 use Rattle.rules.specs.Environment.{Env}
@@ -14,11 +13,10 @@ use Rattle.who.specs.Who.{naming, found}
 use Rattle.who.specs.Following.{Ready, pixel}
 use Rattle.who.proofs.following.last_writer.Given as goal
 
--- of a run that began with e, k opcodes are carried out, and r is named of them; the state runs
+-- of a run that began with e, k opcodes are carried out, and r is named of them
 pub record Going (w : List ℕ) (b : Bounds) (e : Env) (budget : ℕ) (d : Dot) (g : Registers) (vs : List ℕ) (st : Stack) (r : Writer) (k : ℕ) : Type 0 where
   pub ready : Ready w b g vs st
   pub same : found w e budget d ≡ Writings.rest naming (afgis w) d r (suc k) (budget - k) (look b g vs st)
-  pub running : (look b g vs st).state ≡ Running
 
 abbrev pub invariant-loop-steps : goal.invariant-loop-steps
 invariant-loop-steps l =
