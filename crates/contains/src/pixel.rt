@@ -12,8 +12,8 @@ pub struct Pixel {
 }
 
 impl Pixel {
-    // Biased.
-    pub fn spot(self) -> Spot
+    // Its coordinates, biased.
+    pub(crate) fn spot(self) -> Spot
         ensures { (result.x ≡ self.column + bias) × (result.y ≡ self.row + bias) }
     {
         Spot {

@@ -11,6 +11,7 @@ ghost use Rattle.who.specs.Following.{Ready, pixel};
 use crate::{Writer, saying};
 use brush::Brush;
 use contains::contains;
+use contains::pixel::Pixel;
 use lent::{Stack, frame};
 use numbers::place::WordIndex;
 use raster::frame::{Bounds, Frame};
@@ -18,20 +19,12 @@ use rules::environment::Registers;
 use step::step::step;
 
 // Who is named behind an opcode that paints: this step where it wrote the dot, else whoever was named before.
-fn named(
-    before: Writer,
-    f: Frame,
-    brush: Brush,
-    column: u32,
-    row: u32,
-    step: u32,
-    opcode: WordIndex,
-) -> Writer
-    requires { Sane f × (column < f.bounds.width) × (row < f.bounds.height) }
-    ensures { result ≡ cond (writes (brushed f brush) (pixel column row))
+fn named(before: Writer, f: Frame, brush: Brush, d: Pixel, step: u32, opcode: WordIndex) -> Writer
+    requires { Sane f × (d.column < f.bounds.width) × (d.row < f.bounds.height) }
+    ensures { result ≡ cond (writes (brushed f brush) (pixel d.column d.row))
         (record { number = 0; colour = brush.colour; step = step; opcode = opcode }) before }
 {
-    if contains(f, brush, column, row) {
+    if contains(f, brush, d) {
         Writer {
             number: 0,
             colour: brush.colour,
@@ -43,7 +36,7 @@ fn named(
     }
 }
 
-// The state is asked as the run begins and behind each opcode, so it runs wherever the loop is.
+// Who wrote the dot last.
 pub fn last_writer(
     words: &[u16],
     b: Bounds,
@@ -51,30 +44,25 @@ pub fn last_writer(
     vars: &mut [u32; 64],
     stack: &mut Stack,
     budget: u32,
-    column: u32,
-    row: u32,
+    d: Pixel,
 ) -> Writer
     requires ready { Ready words.now b registers.old vars.old stack.old }
-    requires column_lt_width { (column < b.width) × (row < b.height) }
+    requires inside { (d.column < b.width) × (d.row < b.height) }
     ensures { result ≡ found words.now
-        (look b registers.old vars.old stack.old) budget (pixel column row) }
+        (look b registers.old vars.old stack.old) budget (pixel d.column d.row) }
 {
     let mut writer = saying(0);
-    if registers.state != 0 {
-        return writer;
-    }
     for steps in 0..budget {
-        let opcode = registers.counter;
-        match step(words, registers, vars, stack) {
-            Ok(None) => {}
-            Ok(Some(brush)) => {
-                let f = frame(b, &*registers);
-                writer = named(writer, f, brush, column, row, steps + 1, opcode);
-            }
-            Err(_) => return writer,
-        }
         if registers.state != 0 {
             return writer;
+        }
+        let opcode = registers.counter;
+        let Ok(painting) = step(words, registers, vars, stack) else {
+            return writer;
+        };
+        if let Some(brush) = painting {
+            let f = frame(b, &*registers);
+            writer = named(writer, f, brush, d, steps + 1, opcode);
         }
     }
     writer

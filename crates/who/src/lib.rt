@@ -1,14 +1,14 @@
 // Document 02, T-08, who painted this dot: a list is run without a screen, and the last step that wrote the dot is named.
 #![tactic(auto)]
 
-mod coordinate; // a coordinate as a column or a row
+mod pixel; // a dot as a column and a row of a screen
 mod following; // one opcode after the other, and who is named so far
 
 ghost use Rattle.std.specs.Prelude.{◌≡◌, ◌*◌};
-ghost use Rattle.who.specs.Who.{saying as sayingOf, Promise};
+ghost use Rattle.who.specs.Who.{saying, Promise};
 
-use crate::coordinate::unsigned;
 use crate::following::last_writer;
+use crate::pixel::pixel_of;
 use lent::Stack;
 use numbers::place::WordIndex;
 use player::refusal::Refusal;
@@ -30,7 +30,7 @@ pub struct Writer {
 
 // A number, and nobody named.
 pub fn saying(number: u8) -> Writer
-    ensures { result ≡ sayingOf number }
+    ensures { result ≡ saying number }
 {
     Writer {
         number,
@@ -54,29 +54,20 @@ pub fn who(list: &[u16], env: Env, budget: u32, dot: Dot) -> Writer
     let b = env.bounds;
     let mut registers = env.registers;
     let mut vars = env.variables;
+    let returns = env.stack;
+    let repeats = env.repeats;
     let mut stack = Stack {
-        returns: env.stack,
+        returns,
         nesting: env.nesting,
-        repeats: env.repeats,
+        repeats,
     };
     if let Err(unfit) = door(list.len(), area(b), b, registers, &stack, budget) {
         return saying(unfit.number());
     }
-    let column = unsigned(dot.x);
-    let row = unsigned(dot.y);
-    if b.width <= column || b.height <= row {
+    let Some(d) = pixel_of(b, dot) else {
         return saying(Refusal::Outside.number());
-    }
-    last_writer(
-        list,
-        b,
-        &mut registers,
-        &mut vars,
-        &mut stack,
-        budget,
-        column,
-        row,
-    )
+    };
+    last_writer(list, b, &mut registers, &mut vars, &mut stack, budget, d)
 }
 
 // The same for C.
