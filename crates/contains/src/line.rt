@@ -15,7 +15,11 @@ use raster::biased::{Spot, aside_of, twice_of};
 fn steps_to(up: bool, a: u32, b: u32) -> u32
     ensures { result ≡ cond up (b - a) (a - b) }
 {
-    if up { b.saturating_sub(a) } else { a.saturating_sub(b) }
+    if up {
+        b.saturating_sub(a)
+    } else {
+        a.saturating_sub(b)
+    }
 }
 
 // Dot k is q aside: no division.
