@@ -5,7 +5,7 @@ ghost use Rattle.circles.specs.Circle.{disc, outline};
 ghost use Rattle.circles.specs.Reaches.{circle_of, circle_at, reach};
 
 use crate::pixel::Pixel;
-use raster::biased::{Spot, gap_of};
+use raster::biased::Spot;
 
 // A point a columns and b rows from the centre is within the radius.
 fn reaches(q: u32, a: u32, b: u32) -> bool
@@ -31,7 +31,7 @@ pub fn on_disc(p: Spot, q: u32, d: Pixel) -> bool
     ensures { result ≡ disc (circle_of p q) (pos d.column) (pos d.row) }
 {
     let s = d.spot();
-    reaches(q, gap_of(p.x, s.x), gap_of(p.y, s.y))
+    reaches(q, p.x.abs_diff(s.x), p.y.abs_diff(s.y))
 }
 
 pub fn on_outline(p: Spot, q: u32, d: Pixel) -> bool
@@ -39,5 +39,5 @@ pub fn on_outline(p: Spot, q: u32, d: Pixel) -> bool
     ensures { result ≡ outline (circle_of p q) (pos d.column) (pos d.row) }
 {
     let s = d.spot();
-    at_edge(q, gap_of(p.x, s.x), gap_of(p.y, s.y))
+    at_edge(q, p.x.abs_diff(s.x), p.y.abs_diff(s.y))
 }

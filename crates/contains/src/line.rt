@@ -9,13 +9,17 @@ use crate::pixel::Pixel;
 use lines::course::{FairCourse, across_of, along_of};
 use lines::dashes::lit;
 use lines::line::SOLID;
-use raster::biased::{Spot, aside_of, less, twice_of, wide};
+use raster::biased::{Spot, aside_of, twice_of};
 
 // How far b is from a, up or down; 0 where it is on the other side.
 fn steps_to(up: bool, a: u32, b: u32) -> u32
     ensures { result ≡ cond up (b - a) (a - b) }
 {
-    if up { less(b, a) } else { less(a, b) }
+    if up {
+        b.saturating_sub(a)
+    } else {
+        a.saturating_sub(b)
+    }
 }
 
 // Dot k is q aside: no division.
@@ -27,9 +31,9 @@ fn at_offset(fair: FairCourse, k: u32, q: u32) -> bool
     if k == 0 {
         return q == 0;
     }
-    let t = twice_of(k, l.m) + wide(l.half());
+    let t = twice_of(k, l.m) + u64::from(l.half());
     let low = twice_of(l.n, q);
-    t >= low && t - low < 2 * wide(l.n)
+    t >= low && t - low < 2 * u64::from(l.n)
 }
 
 // Dot k's coordinate on the other axis is b.

@@ -3,7 +3,7 @@ ghost use Rattle.std.specs.Prelude.{◌≡◌, ◌≤◌};
 ghost use Rattle.raster.specs.Biased.{NearB};
 ghost use Rattle.lines.specs.Courses.{along_b, across_b, course_of, half, number_b, spot_at, Fair};
 
-use raster::biased::{Spot, aside_of, gap_of, larger, less, smaller};
+use raster::biased::{Spot, aside_of};
 
 // flat says that x is the long axis, and ahead that the start is the first point given. along and across are the start's
 // coordinates on the long axis and on the other, up says that the end's on the other is not smaller, and n and m are the
@@ -24,7 +24,11 @@ impl Course {
     pub fn half(self) -> u32
         ensures { result ≡ half self.up self.n }
     {
-        if self.up { self.n } else { less(self.n, 1) }
+        if self.up {
+            self.n
+        } else {
+            self.n.saturating_sub(1)
+        }
     }
 
     // Dot k's number, counted from the first point given.
@@ -53,8 +57,8 @@ pub fn across_of(flat: bool, p: Spot) -> u32
 pub fn course_of(p: Spot, q: Spot) -> Course
     ensures { result ≡ course_of p q }
 {
-    let dx = gap_of(p.x, q.x);
-    let dy = gap_of(p.y, q.y);
+    let dx = p.x.abs_diff(q.x);
+    let dy = p.y.abs_diff(q.y);
     let flat = dy <= dx;
     let ahead = along_of(flat, p) <= along_of(flat, q);
     let (start, end) = if ahead { (p, q) } else { (q, p) };
@@ -65,8 +69,8 @@ pub fn course_of(p: Spot, q: Spot) -> Course
         along: along_of(flat, start),
         across,
         up: across <= across_of(flat, end),
-        n: larger(dx, dy),
-        m: smaller(dx, dy),
+        n: dx.max(dy),
+        m: dx.min(dy),
     }
 }
 

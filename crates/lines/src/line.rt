@@ -39,7 +39,8 @@ fn draw<P: Pattern>(screen: &mut [u8], f: Frame, p: Spot, q: Spot, pattern: P, c
     }
 }
 
-// The drawable dots of the line from p to q.
+// The drawable dots of the line from p to q. That both are near is asked, and no type says it: `brush::placed` makes a spot
+// near and its contract tells it, and every course would have to take the type apart: no plainer.
 pub fn draw_line(screen: &mut [u8], f: Frame, p: Spot, q: Spot, c: u8)
     requires fitting { Fitting f screen.old }
     requires near_b { NearB p × NearB q }

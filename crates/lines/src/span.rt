@@ -3,7 +3,7 @@ ghost use Rattle.std.specs.Prelude.{◌≡◌, ◌<◌};
 ghost use Rattle.lines.specs.Spans.{span_of, covers_b, First, DotsWithin};
 
 use crate::course::{FairCourse, across_of, along_of};
-use raster::biased::{Spot, larger, less, smaller, twice_of, wide};
+use raster::biased::{Spot, twice_of};
 use raster::rect::Rect;
 
 // The numbers from `from` on, before `past`: none where past is not above from. Unlike the library's range it is Copy.
@@ -29,13 +29,13 @@ fn span_of(up: bool, a: u32, lo: u32, hi: u32) -> Span
 {
     if up {
         Span {
-            from: less(lo, a),
-            past: less(hi + 1, a),
+            from: lo.saturating_sub(a),
+            past: (hi + 1).saturating_sub(a),
         }
     } else {
         Span {
-            from: less(a, hi),
-            past: less(a + 1, lo),
+            from: a.saturating_sub(hi),
+            past: (a + 1).saturating_sub(lo),
         }
     }
 }
@@ -53,8 +53,8 @@ impl FairCourse {
         if l.m < q {
             return l.n + 1;
         }
-        let t = twice_of(l.n, q) - wide(l.half());
-        let d = 2 * wide(l.m);
+        let t = twice_of(l.n, q) - u64::from(l.half());
+        let d = 2 * u64::from(l.m);
         ((t + (d - 1)) / d) as u32
     }
 }
@@ -81,7 +81,7 @@ pub fn dots_within(r: Rect, whole: FairCourse) -> Span
         };
     }
     Span {
-        from: larger(a.from, whole.first(b.from)),
-        past: smaller(a.past, whole.first(b.past)),
+        from: a.from.max(whole.first(b.from)),
+        past: a.past.min(whole.first(b.past)),
     }
 }

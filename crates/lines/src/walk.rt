@@ -7,7 +7,7 @@ ghost use Rattle.lines.specs.Walks.{stretch_b, stride, next_place, AllSeen, Pace
 use crate::course::{Course, FairCourse};
 use crate::dashes::Pattern;
 use crate::span::Span;
-use raster::biased::{twice_of, wide};
+use raster::biased::twice_of;
 use raster::rect::byte_of;
 
 // How far aside a dot is, q, and what is left there, e, in parts of 2n.
@@ -28,8 +28,8 @@ impl FairCourse {
         if k == 0 {
             return Slope { q: 0, e: h };
         }
-        let t = twice_of(k, l.m) + wide(h);
-        let d = 2 * wide(l.n);
+        let t = twice_of(k, l.m) + u64::from(h);
+        let d = 2 * u64::from(l.n);
         Slope {
             q: (t / d) as u32,
             e: (t % d) as u32,

@@ -1,8 +1,8 @@
 // Coordinates biased by 65,536, so that they are unsigned, and arithmetic with them. Nothing else computes with signed
 // numbers.
-ghost use Rattle.std.specs.Prelude.{◌≡◌, ◌-◌, ◌*◌, ◌<◌, ◌≤◌, min, max, false};
+ghost use Rattle.std.specs.Prelude.{◌≡◌, ◌*◌, ◌<◌, ◌≤◌, false};
 ghost use Rattle.raster.specs.Frame.{Word, Coord};
-ghost use Rattle.raster.specs.Biased.{biased, spot_of, shifted_b, WordB, gap_b, aside};
+ghost use Rattle.raster.specs.Biased.{biased, spot_of, shifted_b, WordB, aside};
 
 use crate::dots::Dot;
 
@@ -44,44 +44,12 @@ pub fn shift(p: Spot, o: Dot) -> Spot
     Spot { x, y }
 }
 
-// This and the next three, and `wide`, are the library's methods, under the names that `lines` and `contains` call.
-pub fn larger(a: u32, b: u32) -> u32
-    ensures { result ≡ max a b }
-{
-    a.max(b)
-}
-
-pub fn smaller(a: u32, b: u32) -> u32
-    ensures { result ≡ min a b }
-{
-    a.min(b)
-}
-
-pub fn gap_of(a: u32, b: u32) -> u32
-    ensures { result ≡ gap_b a b }
-{
-    a.abs_diff(b)
-}
-
-// a - b, and 0 where b is the larger.
-pub fn less(a: u32, b: u32) -> u32
-    ensures { result ≡ a - b }
-{
-    a.saturating_sub(b)
-}
-
 // q up from b, or down.
 pub fn aside_of(up: bool, b: u32, q: u32) -> u32
     requires { (b < 131072) × (q < 131072) × (up ≡ false → q ≤ b) }
     ensures { result ≡ aside up b q }
 {
     if up { b + q } else { b - q }
-}
-
-pub fn wide(a: u32) -> u64
-    ensures { result ≡ a }
-{
-    u64::from(a)
 }
 
 // 2ab, which 32 bits do not hold.

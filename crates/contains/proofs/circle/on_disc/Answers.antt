@@ -1,14 +1,9 @@
 -- `on_disc`: the distances' squares.
-use Rattle.std.proofs.Common.{ℕ, true, sym, ap, ap₂, ◌∙◌}
-use Rattle.raster.specs.Biased.{gap_b}
-use Rattle.circles.specs.Reaches.{circle_at}
-use Rattle.circles.proofs.Distances.{circle-is}
+use Rattle.std.proofs.Common.{true, ◌∙◌}
+use Rattle.contains.proofs.Distances.{by-distances}
 use Rattle.contains.proofs.circle.on_disc.Goals as goal
 
 pub returns : goal.returns
 returns c =
     let g = c.args in
-    let at = c.spot-s.ensures in
-    c.reaches.ensures
-    ∙ ap₂ (λ (x y : ℕ). circle_at true g.q x y) (c.gap_of.ensures ∙ ap (gap_b g.p.x) at.0) (c.gap_of-2.ensures ∙ ap (gap_b g.p.y) at.1)
-    ∙ sym (circle-is true g.p g.q g.d.column g.d.row)
+    c.reaches.ensures ∙ by-distances true g.p c.spot-s.result g.q g.d.column g.d.row c.abs_diff.ensures c.abs_diff-2.ensures c.spot-s.ensures

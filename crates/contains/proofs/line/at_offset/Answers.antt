@@ -24,10 +24,10 @@ returns-then-t-low c =
     let l = g.fair.course in
     let t : ℕ = 2 * g.k * l.m + half l.up l.n in
     let p = c.twice_of.ensures.0 in
-    let h = c.wide.ensures ∙ c.half.ensures in
-    let t-is : c.twice_of.result + c.wide.result ≡ t = λ i. p i + h i in
+    let h = c.from.ensures ∙ c.half.ensures in
+    let t-is : c.twice_of.result + c.from.result ≡ t = λ i. p i + h i in
     let low = c.twice_of-low.ensures.0 in
-    (λ i. ltb (t-is i - low i) (2 * c.wide-then-t-low.ensures i))
+    (λ i. ltb (t-is i - low i) (2 * c.from-then-t-low.ensures i))
     ∙ quotient t (2 * l.n) g.q (more g.k l.n c.if-k-eq0.false c.requires.0) (subst₂ (λ (x y : ℕ). x ≤ y) low t-is c.if-t-low.true)
 
 pub returns-else-t-low : goal.returns-else-t-low
@@ -37,7 +37,7 @@ returns-else-t-low c =
     let l = g.fair.course in
     let t : ℕ = 2 * g.k * l.m + half l.up l.n in
     let p = c.twice_of.ensures.0 in
-    let h = c.wide.ensures ∙ c.half.ensures in
-    let t-is : c.twice_of.result + c.wide.result ≡ t = λ i. p i + h i in
-    lt-leb c.twice_of-low.result (c.twice_of.result + c.wide.result) c.if-t-low.false
+    let h = c.from.ensures ∙ c.half.ensures in
+    let t-is : c.twice_of.result + c.from.result ≡ t = λ i. p i + h i in
+    lt-leb c.twice_of-low.result (c.twice_of.result + c.from.result) c.if-t-low.false
     ∙ sym (too_far t (2 * l.n) g.q (more g.k l.n c.if-k-eq0.false c.requires.0) (subst₂ (λ (x y : ℕ). x < y) t-is c.twice_of-low.ensures.0 c.if-t-low.false))

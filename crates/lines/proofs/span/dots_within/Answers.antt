@@ -28,8 +28,8 @@ returns c =
     let along : c.span_of-a.result ≡ along_span r l = found true l.along c.span_of-a.ensures c.along_of.ensures c.along_of-2.ensures in
     let across : c.span_of-b.result ≡ across_span r l = found l.up l.across c.span_of-b.ensures c.across_of.ensures c.across_of-2.ensures in
     subst₂ (λ (f p : ℕ). DotsWithin r l f p)
-    (sym (c.larger.ensures ∙ ap (λ (t : Span). max t.from u) along))
-    (sym (c.smaller.ensures ∙ ap (λ (t : Span). min t.past v) along))
+    (sym (c.max.ensures ∙ ap (λ (t : Span). max t.from u) along))
+    (sym (c.min.ensures ∙ ap (λ (t : Span). min t.past v) along))
     (dots-within r l c.args.whole.fair u v
     (subst (λ (t : Span). First l t.from u) across c.first.ensures)
     (subst (λ (t : Span). First l t.past v) across c.first-2.ensures))

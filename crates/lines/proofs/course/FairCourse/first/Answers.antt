@@ -17,5 +17,5 @@ returns-then-l-q c = first-never c.args.self.course c.args.q c.if-l-q.true
 
 pub returns : goal.returns
 returns c =
-    subst⁻¹ (λ (u : ℕ). First c.args.self.course c.args.q u) (found c.twice_of.ensures.0 (c.wide.ensures ∙ c.half.ensures) c.wide-d.ensures)
+    subst⁻¹ (λ (u : ℕ). First c.args.self.course c.args.q u) (found c.twice_of.ensures.0 (c.from.ensures ∙ c.half.ensures) c.from-d.ensures)
     (first-is c.args.self.course c.args.self.fair c.args.q (some c.args.q c.if-q-eq0.false) c.if-l-q.false)

@@ -22,6 +22,6 @@ pub returns : goal.returns
 returns c =
     let l = c.args.self.course in
     subst₂ (λ (q e : ℕ). Reached l c.args.k q e)
-    (sym (quotient c.twice_of.ensures.0 (c.wide.ensures ∙ c.half-h.ensures) c.wide-d.ensures))
-    (sym (remainder c.twice_of.ensures.0 (c.wide.ensures ∙ c.half-h.ensures) c.wide-d.ensures))
+    (sym (quotient c.twice_of.ensures.0 (c.from.ensures ∙ c.half-h.ensures) c.from-d.ensures))
+    (sym (remainder c.twice_of.ensures.0 (c.from.ensures ∙ c.half-h.ensures) c.from-d.ensures))
     (reached l c.args.k (some c.args.k l.n c.if-k-eq0.false c.requires))
