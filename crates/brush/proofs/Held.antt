@@ -1,5 +1,5 @@
 -- What a brush holds is near: its coordinates are signed words, and its radius comes back whole from a call.
-use Rattle.std.proofs.Common.{◌≡◌, ◌<◌, ◌&&◌, Bool, true, false, ℕ, ℤ, pos, negsuc, refl, sym, ap, ◌∙◌, arith, to_z, of_z, w32}
+use Rattle.std.proofs.Common.{◌≡◌, ◌<◌, ◌&&◌, Bool, true, false, ℕ, ℤ, pos, negsuc, refl, sym, arith, to_z, of_z, w32}
 use mathlib.Core.Bool.{true≢false}
 use borrow.Author.Tests.{leb-true}
 use lib.IntN.{nat_abs}

@@ -1,5 +1,5 @@
 -- `paint`: each arm paints the shape that the figure says, its points moved to the origin.
-use Rattle.std.proofs.Common.{◌≡◌, true, false, sym, ap, ap₂, ◌∙◌}
+use Rattle.std.proofs.Common.{true, false, sym, ap, ap₂, ◌∙◌}
 use Rattle.raster.specs.declared.dots.Dot.{Dot}
 use Rattle.raster.specs.Shapes.{Shape, dot, moved_by}
 use Rattle.raster.specs.Paint.{paint}
