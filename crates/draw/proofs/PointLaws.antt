@@ -1,24 +1,22 @@
 -- Points: what two coordinates that are judged make of a point, what an answer tells of it, and dots there. And circles: what a radius makes of one.
-use Prim.Native.Nat.{ℕ, ◌^◌, ◌<◌}
-use mathlib.Core.Path.{◌≡◌, refl, sym, ap, ◌∙◌}
+use Prim.Native.Nat.{◌^◌, ◌<◌}
+use mathlib.Core.Path.{◌≡◌, refl, sym, ◌∙◌}
 use mathlib.Core.Bool.{Bool, true, false, cond, not, ◌&&◌, ◌||◌}
-use mathlib.Core.List.{List}
 use borrow.Author.Tests.{not-false}
-use lib.IntN.{ℤ, pos, ◌+ℤ◌}
-use lib.Signed.{mag, le_z}
+use lib.IntN.{ℤ, ◌+ℤ◌}
+use lib.Signed.{mag}
 use mir.Syntax.{w32}
 use mir.Val.{to_z, of_z}
 use mir.Facts.{to_z-of_z}
 use Rattle.std.specs.Prelude.{Some, None, Option}
 use Rattle.numbers.specs.Coordinate.{in_word, coordinate, is_radius, radius}
-use Rattle.numbers.specs.declared.place.WordIndex.{WordIndex}
 use Rattle.numbers.proofs.Answers.{told-first, told-second, clash}
 use Rattle.raster.specs.declared.dots.Dot.{Dot}
 use Rattle.raster.specs.Shapes.{shifted}
 use Rattle.circles.specs.declared.circle.Circle.{Circle}
 use Rattle.brush.specs.Near.{near_dot, near_circle}
 use Rattle.brush.proofs.Held.{radius-natural, radius-back}
-use Rattle.rules.specs.Opcodes.{far, dots}
+use Rattle.rules.specs.Opcodes.{far}
 use Rattle.rules.proofs.Ranges.{both, neither}
 use Rattle.draw.specs.Point.{some_unless, point_of, point_by, paired, round_of}
 

@@ -1,5 +1,5 @@
 -- `line`: a type above 1 is 24, an end outside 25.
-use Rattle.std.proofs.Common.{◌≡◌, true, refl, sym, ap₂, ◌∙◌}
+use Rattle.std.proofs.Common.{refl, sym, ap₂, ◌∙◌}
 use Rattle.brush.specs.Brush.{shape_of}
 use Rattle.brush.specs.Near.{near_dot}
 use Rattle.raster.specs.declared.dots.Dot.{Dot}

@@ -1,5 +1,5 @@
 -- `line_to`: a type above 1 is 24, a point outside 25.
-use Rattle.std.proofs.Common.{refl, sym, ap, ◌∙◌}
+use Rattle.std.proofs.Common.{refl, sym, ◌∙◌}
 use Rattle.rules.specs.Op as Op
 use Rattle.rules.specs.Environment.{Env, moved}
 use Rattle.rules.specs.Opcodes.{paints, typed, rule}
