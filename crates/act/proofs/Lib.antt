@@ -3,3 +3,4 @@ pub mod ConditionLaws
 pub mod JumpLaws
 pub mod CallLaws
 pub mod RepeatLaws
+pub mod ValueLaws

@@ -1,5 +1,5 @@
 -- What the count and the open repeats tell of the rules of RPT and ERPT.
-use Rattle.std.proofs.Common.{◌≡◌, ℕ, suc, ◌+◌, ◌-◌, ◌<◌, ◌≤◌, Bool, true, false, ◌&&◌, List, [], ◌∷◌, ◌++◌, length, take, Some, None, Ok, refl, ap, ◌∙◌, add-one, arith}
+use Rattle.std.proofs.Common.{◌≡◌, ℕ, suc, ◌+◌, ◌-◌, ◌<◌, ◌≤◌, Bool, true, false, ◌&&◌, List, [], ◌∷◌, ◌++◌, length, take, Ok, Err, refl, ap, ◌∙◌, add-one, arith}
 use mathlib.Core.Bool.{and-false}
 use mathlib.Core.Logic.{◌⊎◌, inl, inr}
 use borrow.Author.Tests.{le-leb, lt-leb, lt-ltb, le-ltb, eq-eqb, ne_eqb}
@@ -17,7 +17,8 @@ use Rattle.rules.proofs.StackLaws.{length-firsts, push, pop, each}
 use Rattle.lent.specs.declared.Stack.{Stack}
 use Rattle.lent.specs.Lent.{look}
 use Rattle.lent.specs.Shown.{seen, does}
-use Rattle.lent.proofs.Acting.{lowest, quiet}
+use Rattle.player.specs.Player.{fault}
+use Rattle.lent.proofs.Acting.{halts, quiet}
 
 -- ---- a count of passes
 pub uncountable : (k : ℕ) → (k ≡ 0) ⊎ ((k ≡ 0 → ⊥) × (1000 < k)) → countable k ≡ false
@@ -32,12 +33,12 @@ module _ (b : Bounds) (r : Registers) (vs : List ℕ) (st : Stack) (next : WordI
   e = look b r vs st
 
   -- ---- RPT, in a list of n words
-  pub not-countable : countable o.a ≡ false → lowest (rule Op.Repeat o n (goto next e)) ≡ Some 24
-  not-countable c = rw c refl
+  pub open-24 : countable o.a ≡ false → seen (Err (fault 24 r.counter)) e ≡ does (rule Op.Repeat o n) next e
+  open-24 c = halts (rule Op.Repeat o n) next e refl refl (rw c refl)
 
   module _ (c : countable o.a ≡ true) where
-    pub eight-open : 8 ≤ st.nesting → lowest (rule Op.Repeat o n (goto next e)) ≡ Some 28
-    eight-open l = rw (c, length-firsts over st.nesting st.repeats, le-leb 8 st.nesting l) refl
+    pub open-28 : 8 ≤ st.nesting → seen (Err (fault 28 r.counter)) e ≡ does (rule Op.Repeat o n) next e
+    open-28 l = halts (rule Op.Repeat o n) next e refl refl (rw (c, length-firsts over st.nesting st.repeats, le-leb 8 st.nesting l) refl)
 
     -- the block begins at the next opcode
     pub opens : length st.repeats ≡ 8 → st.nesting < 8
@@ -49,8 +50,8 @@ module _ (b : Bounds) (r : Registers) (vs : List ℕ) (st : Stack) (next : WordI
         quiet (rule Op.Repeat o n) next e (rw (c, length-firsts over st.nesting st.repeats, lt-leb 8 st.nesting h) refl) (rw stacked_as refl) refl refl
 
   -- ---- ERPT
-  pub none-open : st.nesting ≡ 0 → lowest (rule Op.EndRepeat o n (goto next e)) ≡ Some 29
-  none-open z = rw (length-firsts over st.nesting st.repeats, eq-eqb st.nesting 0 z) refl
+  pub pass-29 : st.nesting ≡ 0 → seen (Err (fault 29 r.counter)) e ≡ does (rule Op.EndRepeat o n) next e
+  pass-29 z = halts (rule Op.EndRepeat o n) next e refl refl (rw (length-firsts over st.nesting st.repeats, eq-eqb st.nesting 0 z) refl)
 
   module _ (h : st.nesting ≡ 0 → ⊥) where
     abbrev innermost : Repeat

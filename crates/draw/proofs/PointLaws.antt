@@ -15,7 +15,7 @@ use Rattle.raster.specs.declared.dots.Dot.{Dot}
 use Rattle.raster.specs.Shapes.{shifted}
 use Rattle.circles.specs.declared.circle.Circle.{Circle}
 use Rattle.brush.specs.Near.{near_dot, near_circle}
-use Rattle.brush.proofs.Held.{radius-natural, radius-back}
+use Rattle.brush.proofs.Brushes.{radius-natural, radius-back}
 use Rattle.rules.specs.Opcodes.{far}
 use Rattle.rules.proofs.Ranges.{both, neither}
 use Rattle.draw.specs.Point.{some_unless, point_of, point_by, paired, round_of}

@@ -1,2 +1,3 @@
--- What the proofs of act, draw and step share.
+-- What a register shows; and what the proofs of act, draw and step share.
+pub mod LentLaws
 pub mod Acting

@@ -1,17 +1,18 @@
 -- `paint`: each arm paints the shape that the figure says, its points moved to the origin.
-use Rattle.std.proofs.Common.{true, false, sym, ap, ap₂, ◌∙◌}
-use Rattle.raster.specs.declared.dots.Dot.{Dot}
-use Rattle.raster.specs.Shapes.{Shape, dot, moved_by}
+use Rattle.std.proofs.Common.{◌≡◌, ℕ, true, false, List, refl, sym, ap, ◌∙◌}
+use Rattle.raster.specs.declared.frame.Frame.{Frame}
+use Rattle.raster.specs.Shapes.{Shape, moved_by}
 use Rattle.raster.specs.Paint.{paint}
-use Rattle.raster.proofs.Moved.{dot-moved}
-use Rattle.lines.specs.Line.{line}
-use Rattle.lines.specs.Dashes.{dashed}
-use Rattle.lines.proofs.Moved.{line-moved, dashed-moved}
-use Rattle.circles.specs.Circle.{disc, outline}
-use Rattle.circles.proofs.Moved.{circle-moved}
+use Rattle.brush.specs.declared.Figure.{Figure}
 use Rattle.brush.specs.Brush.{shape_of}
-use Rattle.brush.proofs.Held.{of-dot, of-line, of-dashed, of-disc, of-outline}
+use Rattle.brush.proofs.Brushes.{of-dot, of-line, of-dashed, of-disc, of-outline}
+use Rattle.brush.proofs.Placing.{dot-placed, line-placed, dashed-placed, circle-placed}
 use Rattle.brush.proofs.paint.Goals as goal
+
+-- R is the shape of the figure h, moved to the origin, and the brush holds h
+as_held : (f : Frame) (s : List ℕ) (c : ℕ) {R : Shape} {g h : Figure} → R ≡ moved_by f.origin (shape_of h) → g ≡ h
+    → paint f R c s ≡ paint f (moved_by f.origin (shape_of g)) c s
+as_held f s c moved held = ap (λ (S : Shape). paint f S c s) (moved ∙ ap (λ x. moved_by f.origin (shape_of x)) (sym held))
 
 pub placed-requires : goal.placed-requires
 placed-requires c = let w = of-dot c.args.brush.near c.in-Dot.is in let o = c.requires.sane.origin in (w.0, w.1, o.0, o.1)
@@ -43,46 +44,30 @@ radius_of-requires-in-Outline c = (of-outline c.args.brush.near c.in-Outline.is)
 pub returns-in-Dot : goal.returns-in-Dot
 returns-in-Dot c =
     let g = c.args in
-    let o = g.f.origin in
-    c.plot.ensures
-    ∙ ap (λ (S : Shape). paint g.f S g.brush.colour g.screen.now)
-    (ap dot c.placed.ensures.value ∙ (dot-moved c.in-Dot.d o ∙ ap (λ s. moved_by o (shape_of s)) (sym c.in-Dot.is)))
+    c.plot.ensures ∙ as_held g.f g.screen.now g.brush.colour (dot-placed g.f.origin c.in-Dot.d c.placed.ensures.value) c.in-Dot.is
 
 pub returns-in-Line : goal.returns-in-Line
 returns-in-Line c =
     let g = c.args in
-    let o = g.f.origin in
     c.draw_line.ensures
-    ∙ ap (λ (S : Shape). paint g.f S g.brush.colour g.screen.now)
-    (ap₂ (λ (p q : Dot). line (record { from = p; to = q })) c.placed-in-Line.ensures.value c.placed-in-Line-2.ensures.value
-    ∙ (line-moved o c.in-Line.l ∙ ap (λ s. moved_by o (shape_of s)) (sym c.in-Line.is)))
+    ∙ as_held g.f g.screen.now g.brush.colour (line-placed g.f.origin c.in-Line.l c.placed-in-Line.ensures.value c.placed-in-Line-2.ensures.value) c.in-Line.is
 
 pub returns-in-Dashed : goal.returns-in-Dashed
 returns-in-Dashed c =
     let g = c.args in
-    let o = g.f.origin in
-    let k = c.in-Dashed.pattern in
     c.draw_dashed.ensures
-    ∙ ap (λ (S : Shape). paint g.f S g.brush.colour g.screen.now)
-    (ap₂ (λ (p q : Dot). dashed k (record { from = p; to = q })) c.placed-in-Dashed.ensures.value c.placed-in-Dashed-2.ensures.value
-    ∙ (dashed-moved k o c.in-Dashed.l ∙ ap (λ s. moved_by o (shape_of s)) (sym c.in-Dashed.is)))
+    ∙ as_held g.f g.screen.now g.brush.colour
+    (dashed-placed g.f.origin c.in-Dashed.l c.placed-in-Dashed.ensures.value c.placed-in-Dashed-2.ensures.value c.in-Dashed.pattern) c.in-Dashed.is
 
 pub returns-in-Disc : goal.returns-in-Disc
 returns-in-Disc c =
     let g = c.args in
-    let o = g.f.origin in
-    let k = c.in-Disc.k in
     c.draw_disc.ensures
-    ∙ ap (λ (S : Shape). paint g.f S g.brush.colour g.screen.now)
-    ((λ i. disc (record { centre = c.placed-in-Disc.ensures.value i; radius = c.radius_of.ensures.value i }))
-    ∙ (circle-moved true o k ∙ ap (λ s. moved_by o (shape_of s)) (sym c.in-Disc.is)))
+    ∙ as_held g.f g.screen.now g.brush.colour (circle-placed g.f.origin _ c.placed-in-Disc.ensures.value true c.in-Disc.k refl c.radius_of.ensures.value) c.in-Disc.is
 
 pub returns-in-Outline : goal.returns-in-Outline
 returns-in-Outline c =
     let g = c.args in
-    let o = g.f.origin in
-    let k = c.in-Outline.k in
     c.draw_outline.ensures
-    ∙ ap (λ (S : Shape). paint g.f S g.brush.colour g.screen.now)
-    ((λ i. outline (record { centre = c.placed-in-Outline.ensures.value i; radius = c.radius_of-in-Outline.ensures.value i }))
-    ∙ (circle-moved false o k ∙ ap (λ s. moved_by o (shape_of s)) (sym c.in-Outline.is)))
+    ∙ as_held g.f g.screen.now g.brush.colour
+    (circle-placed g.f.origin _ c.placed-in-Outline.ensures.value false c.in-Outline.k refl c.radius_of-in-Outline.ensures.value) c.in-Outline.is

@@ -1,6 +1,6 @@
 -- `radius_of`: the radius is not below 0.
 use Rattle.std.proofs.Common.{arith}
-use Rattle.brush.proofs.Held.{radius-small, radius-natural, radius-back}
+use Rattle.brush.proofs.Brushes.{radius-small, radius-natural, radius-back}
 use Rattle.brush.proofs.radius_of.Goals as goal
 
 pub overflow_cast-result : goal.overflow_cast-result

@@ -10,7 +10,7 @@ use Rattle.circles.specs.Circle.{disc, outline}
 use Rattle.circles.proofs.Moved.{circle-moved}
 use Rattle.brush.specs.declared.Figure.{Figure}
 use Rattle.brush.specs.Brush.{shape_of}
-use Rattle.brush.proofs.Held.{of-dot, of-line, of-dashed, of-disc, of-outline}
+use Rattle.brush.proofs.Brushes.{of-dot, of-line, of-dashed, of-disc, of-outline}
 use Rattle.contains.proofs.on_shape.Goals as goal
 
 -- the figure's shape is T, and R is T, moved to the origin

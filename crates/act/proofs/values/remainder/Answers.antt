@@ -1,19 +1,21 @@
 -- `remainder`: refused where the divisor is zero, else the remainder is put.
 use Rattle.std.proofs.Common.{refl, sym, ap, ◌∙◌}
 use Rattle.numbers.specs.Number.{remainder32}
-use Rattle.numbers.proofs.Division.{told-by-zero, told-gives}
+use Rattle.numbers.proofs.Division.{told-gives}
 use Rattle.rules.specs.Op as Op
 use Rattle.rules.specs.Opcodes.{gives, old, rule}
 use Rattle.lent.specs.Lent.{look}
 use Rattle.lent.specs.Shown.{does}
-use Rattle.lent.proofs.Acting.{halts, lacking, past}
+use Rattle.lent.proofs.Acting.{told, lacking, past}
+use Rattle.act.proofs.ValueLaws.{by_zero}
 use Rattle.act.proofs.values.remainder.Goals as goal
 
 pub returns-in_err-ok_or : goal.returns-in_err-ok_or
 returns-in_err-ok_or c n b st =
+    let g = c.args in
     let none = c.in_err-ok_or.ensures in
-    let zero = told-by-zero c.args.f.operands.a _ (sym c.remainder-remainder.ensures ∙ none.ok_part) in
-    halts _ _ _ (lacking c.from_residual.ensures none.value none.ok_part) c.refused.ensures (rw zero refl)
+    told (lacking c.from_residual.ensures none.value none.ok_part) c.refused.ensures
+    (by_zero g.f.operands n g.f.next (look b g.registers.now g.variables.now st) _ c.remainder-remainder.ensures none.ok_part).1
 
 pub returns : goal.returns
 unfolding does
@@ -21,6 +23,6 @@ returns c n b st =
     let g = c.args in
     let o = g.f.operands in
     let e = look b g.registers.now g.variables.now st in
-    let told = told-gives o.a _ _ (sym c.remainder-remainder.ensures ∙ c.in_ok-ok_or.ensures.ok_part) in
-    past (rule Op.Remainder o n) g.f.next e (λ e. gives (remainder32 (old o e) o.a) o e) (rw told.0 refl) refl
-    (c.put.ensures b st ∙ ap (λ v. does (gives v o) g.f.next e) (told.1 ∙ ap (λ x. remainder32 x o.a) c.old.ensures))
+    let got = told-gives o.a _ _ (sym c.remainder-remainder.ensures ∙ c.in_ok-ok_or.ensures.ok_part) in
+    past (rule Op.Remainder o n) g.f.next e (λ e. gives (remainder32 (old o e) o.a) o e) (rw got.0 refl) refl
+    (c.put.ensures b st ∙ ap (λ v. does (gives v o) g.f.next e) (got.1 ∙ ap (λ x. remainder32 x o.a) c.old.ensures))
