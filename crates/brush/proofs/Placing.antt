@@ -16,14 +16,14 @@ use Rattle.circles.specs.Reaches.{circle_of}
 use Rattle.circles.proofs.Moved.{circle-moved}
 
 -- p is the point d moved, and q another one
-module _ (o d : Dot) {p : Spot} (is : dot_of p ≡ shifted d o) where
+module _ (o d : Dot) (p : Spot) (is : dot_of p ≡ shifted d o) where
   pub dot-placed : dot (dot_of p) ≡ moved_by o (dot d)
   dot-placed = ap dot is ∙ dot-moved d o
 
   pub circle-placed : (filled : Bool) (k : Circle) → d ≡ k.centre → {q : ℕ} → pos q ≡ k.radius → circle filled (circle_of p q) ≡ moved_by o (circle filled k)
   circle-placed filled k at r = (λ i. circle filled (record { centre = (is ∙ ap (λ x. shifted x o) at) i; radius = r i })) ∙ circle-moved filled o k
 
-module _ (o : Dot) (l : Line) {p q : Spot} (from : dot_of p ≡ shifted l.from o) (to : dot_of q ≡ shifted l.to o) where
+module _ (o : Dot) (l : Line) (p q : Spot) (from : dot_of p ≡ shifted l.from o) (to : dot_of q ≡ shifted l.to o) where
   pub line-placed : line (line_of p q) ≡ moved_by o (line l)
   line-placed = ap₂ (λ (x y : Dot). line (record { from = x; to = y })) from to ∙ line-moved o l
 

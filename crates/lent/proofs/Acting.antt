@@ -90,8 +90,8 @@ module _ (rule : Env → Rule) (next : WordIndex) (e : Env) where
         ∙ ap (λ (y : Painting). went r.env (marks y)) (sym empty)))
 
 -- what is handed back is a refusal, of which something is shown
-pub told : {u : Upshot} {v w : Verdict} {e : Env} {X : Shown} → u ≡ Err v → v ≡ w → seen (Err w) e ≡ X → seen u e ≡ X
-told is same x = rw (is, same) x
+pub told : (e : Env) {u : Upshot} {v w : Verdict} {X : Shown} → u ≡ Err v → v ≡ w → seen (Err w) e ≡ X → seen u e ≡ X
+told e is same x = rw (is, same) x
 
 -- what a `?` hands back of the refusal v
 pub handed-back : {u : Upshot} {v : Verdict} → IsErr u × IsErrAnd u (λ (x : Verdict). x ≡ v) → u ≡ Err v

@@ -44,30 +44,30 @@ radius_of-requires-in-Outline c = (of-outline c.args.brush.near c.in-Outline.is)
 pub returns-in-Dot : goal.returns-in-Dot
 returns-in-Dot c =
     let g = c.args in
-    c.plot.ensures ∙ as_held g.f g.screen.now g.brush.colour (dot-placed g.f.origin c.in-Dot.d c.placed.ensures.value) c.in-Dot.is
+    c.plot.ensures ∙ as_held g.f g.screen.now g.brush.colour (dot-placed g.f.origin c.in-Dot.d _ c.placed.ensures.value) c.in-Dot.is
 
 pub returns-in-Line : goal.returns-in-Line
 returns-in-Line c =
     let g = c.args in
     c.draw_line.ensures
-    ∙ as_held g.f g.screen.now g.brush.colour (line-placed g.f.origin c.in-Line.l c.placed-in-Line.ensures.value c.placed-in-Line-2.ensures.value) c.in-Line.is
+    ∙ as_held g.f g.screen.now g.brush.colour (line-placed g.f.origin c.in-Line.l _ _ c.placed-in-Line.ensures.value c.placed-in-Line-2.ensures.value) c.in-Line.is
 
 pub returns-in-Dashed : goal.returns-in-Dashed
 returns-in-Dashed c =
     let g = c.args in
     c.draw_dashed.ensures
     ∙ as_held g.f g.screen.now g.brush.colour
-    (dashed-placed g.f.origin c.in-Dashed.l c.placed-in-Dashed.ensures.value c.placed-in-Dashed-2.ensures.value c.in-Dashed.pattern) c.in-Dashed.is
+    (dashed-placed g.f.origin c.in-Dashed.l _ _ c.placed-in-Dashed.ensures.value c.placed-in-Dashed-2.ensures.value c.in-Dashed.pattern) c.in-Dashed.is
 
 pub returns-in-Disc : goal.returns-in-Disc
 returns-in-Disc c =
     let g = c.args in
     c.draw_disc.ensures
-    ∙ as_held g.f g.screen.now g.brush.colour (circle-placed g.f.origin _ c.placed-in-Disc.ensures.value true c.in-Disc.k refl c.radius_of.ensures.value) c.in-Disc.is
+    ∙ as_held g.f g.screen.now g.brush.colour (circle-placed g.f.origin _ _ c.placed-in-Disc.ensures.value true c.in-Disc.k refl c.radius_of.ensures.value) c.in-Disc.is
 
 pub returns-in-Outline : goal.returns-in-Outline
 returns-in-Outline c =
     let g = c.args in
     c.draw_outline.ensures
     ∙ as_held g.f g.screen.now g.brush.colour
-    (circle-placed g.f.origin _ c.placed-in-Outline.ensures.value false c.in-Outline.k refl c.radius_of-in-Outline.ensures.value) c.in-Outline.is
+    (circle-placed g.f.origin _ _ c.placed-in-Outline.ensures.value false c.in-Outline.k refl c.radius_of-in-Outline.ensures.value) c.in-Outline.is

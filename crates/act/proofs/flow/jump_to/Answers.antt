@@ -11,7 +11,7 @@ returns-in_err-ok_or g c T is b vs st =
     let a = c.args in
     let r = a.registers.now in
     let none = c.in_err-ok_or.ensures in
-    told (lacking c.from_residual.ensures none.value none.ok_part) c.refused.ensures
+    told (look b r vs st) (lacking c.from_residual.ensures none.value none.ok_part) c.refused.ensures
     (jump-24 b r vs st a.next a.k T (none-allowed a.k r.first r.second (sym c.is_met-met.ensures ∙ none.ok_part)))
 
 pub returns-in_err-registers : goal.returns-in_err-registers
@@ -19,7 +19,7 @@ returns-in_err-registers g c T is b vs st =
     let a = c.args in
     let r = a.registers.now in
     let none = c.in_err-registers.ensures in
-    told (lacking c.from_residual-in_err-registers.ensures none.value none.ok_part) c.refused-then-branch.ensures
+    told (look b r vs st) (lacking c.from_residual-in_err-registers.ensures none.value none.ok_part) c.refused-then-branch.ensures
     (jump-27 b r vs st a.next a.k T (some-met a.k r.first r.second (sym c.is_met-met.ensures ∙ c.in_ok-ok_or.ensures.ok_part)) c.if-branch.true
     (sym (is _ c.target.ensures (look b r vs st)) ∙ none.ok_part))
 

@@ -1,5 +1,6 @@
 -- `repeat`: the count is judged first, and then how many repeats are open.
 use Rattle.std.proofs.Common.{rules, refl}
+use Rattle.lent.specs.Lent.{look}
 use Rattle.lent.proofs.Acting.{told}
 use Rattle.act.proofs.RepeatLaws.{uncountable, some, open-24, open-28, opens}
 use Rattle.act.proofs.repeats.repeat.Goals as goal
@@ -7,12 +8,12 @@ use Rattle.act.proofs.repeats.repeat.Goals as goal
 pub returns-then-passes-eq0 : goal.returns-then-passes-eq0
 returns-then-passes-eq0 c n b vs =
     let g = c.args in
-    told refl c.refused.ensures (open-24 b g.registers.now vs g.stack.now g.f.next g.f.operands n (uncountable _ c.then-passes-eq0.either))
+    told (look b g.registers.now vs g.stack.now) refl c.refused.ensures (open-24 b g.registers.now vs g.stack.now g.f.next g.f.operands n (uncountable _ c.then-passes-eq0.either))
 
 pub returns-then-open-ge8 : goal.returns-then-open-ge8
 returns-then-open-ge8 c n b vs =
     let g = c.args in
-    told refl c.refused-then-open-ge8.ensures
+    told (look b g.registers.now vs g.stack.now) refl c.refused-then-open-ge8.ensures
     (open-28 b g.registers.now vs g.stack.now g.f.next g.f.operands n (some _ c.if-passes-eq0.false c.if-passes-gt1000.false) c.if-open-ge8.true)
 
 pub returns : goal.returns

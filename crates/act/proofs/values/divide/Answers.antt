@@ -14,7 +14,7 @@ pub returns-in_err-ok_or : goal.returns-in_err-ok_or
 returns-in_err-ok_or c n b st =
     let g = c.args in
     let none = c.in_err-ok_or.ensures in
-    told (lacking c.from_residual.ensures none.value none.ok_part) c.refused.ensures
+    told (look b g.registers.now g.variables.now st) (lacking c.from_residual.ensures none.value none.ok_part) c.refused.ensures
     (by_zero g.f.operands n g.f.next (look b g.registers.now g.variables.now st) _ c.quotient-quotient.ensures none.ok_part).0
 
 pub returns : goal.returns
