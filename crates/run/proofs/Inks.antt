@@ -39,21 +39,21 @@ module _ (h : Hue) (w : List ℕ) (e : Env) (u : Upshot) (e₁ : Env) (as-shown 
 
   -- nothing is painted
   pub quiet-in : {o : Option Brush} → u ≡ Ok o → o ≡ None → {s s₁ : List ℕ} → s₁ ≡ s → Turned (inked h (afgis w)) e s e₁ s₁
-  quiet-in is none-held {s = s} x =
+  quiet-in is nothing {s = s} x =
       record {
         dots = record { bounds = e₁.bounds; dots = λ x y. false; colour = h e.flow.counter 0 };
         screen = x ∙ none (λ k. false) (h e.flow.counter 0) s (λ k l t. t);
-        shows = rw (is, none-held) at tells;
+        shows = rw (is, nothing) at tells;
       }
 
   -- the brush is painted, dipped into the ink
   pub painted-in : {o : Option Brush} {p : Brush} (d : Brush) → u ≡ Ok o → o ≡ Some p → d.figure ≡ p.figure → d.colour ≡ h e.flow.counter p.colour
-      → {s s₁ : List ℕ} {f : Frame} → f ≡ frame e₁ → s₁ ≡ paint f (moved_by f.origin (shape_of d.figure)) d.colour s
+      → {s t s₁ : List ℕ} {f : Frame} → f ≡ frame e₁ → s₁ ≡ t → t ≡ paint f (moved_by f.origin (shape_of d.figure)) d.colour s
       → Turned (inked h (afgis w)) e s e₁ s₁
-  painted-in {p = p} d is some figure colour {s = s} same x =
+  painted-in d is some figure colour {s = s} same left x =
       turned-painting (inked h (afgis w)) frame e s {u = Ok (Some d)} e₁
       (ap₂ (λ (g : Figure) (c : ℕ). went e₁ (marks (placed (frame e₁) (shape_of g) c))) figure colour ∙ rw (is, some) at tells)
-      refl same x
+      refl same (left ∙ x)
 
   -- it is refused
   pub refused-in : {v : Verdict} → u ≡ Err v → halted (stop v e₁) ≡ shown ((inked h (afgis w)).step e) e

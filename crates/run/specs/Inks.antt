@@ -1,13 +1,12 @@
 -- A player whose opcodes paint in the colours of an ink, told by the opcode's word index and its own colour, and do all else alike.
-use Rattle.std.specs.Prelude.{ℕ}
+use Rattle.std.specs.Prelude.{ℕ, List}
 use Rattle.numbers.specs.declared.place.WordIndex.{WordIndex}
 use Rattle.player.specs.Player.{Outcome, done, refused, Player}
 use Rattle.player.specs.Tinted.{in_colour}
-use Rattle.rules.specs.Environment.{Env}
 use Rattle.player.specs.Hosted.{Hosted}
+use Rattle.rules.specs.Environment.{Env}
 use Rattle.rules.specs.Step.{afgis}
 use Rattle.rules.specs.Door.{door}
-use Rattle.std.specs.Prelude.{List}
 
 abbrev pub Hue : Type 0
 Hue = WordIndex → ℕ → ℕ

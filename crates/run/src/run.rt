@@ -39,13 +39,10 @@ fn refused(number: u8, env: Env) -> Answer
 }
 
 // In the colours of an ink.
-pub fn run_in<I: Ink>(list: &[u16], screen: &mut [u8], env: Env, budget: u32, ink: &I) -> Answer
+pub fn run_in<I: Ink>(list: &[u16], screen: &mut [u8], mut env: Env, budget: u32, ink: &I) -> Answer
     ensures { said result screen.new
         ≡ answered (machine (I.hue ink.now)) (record { list = list.now; budget = budget }) (held env) screen.old }
 {
-    let bounds = env.bounds;
-    let mut registers = env.registers;
-    let mut variables = env.variables;
     let returns = env.stack;
     let repeats = env.repeats;
     let mut stack = Stack {
@@ -53,33 +50,31 @@ pub fn run_in<I: Ink>(list: &[u16], screen: &mut [u8], env: Env, budget: u32, in
         nesting: env.nesting,
         repeats,
     };
-    if let Err(unfit) = door(list.len(), screen.len(), bounds, registers, &stack, budget) {
+    if let Err(unfit) = door(
+        list.len(),
+        screen.len(),
+        env.bounds,
+        env.registers,
+        &stack,
+        budget,
+    ) {
         return refused(unfit.number(), env);
     }
+    let registers = &mut env.registers;
+    let variables = &mut env.variables;
     let steps = turns(
-        list,
-        bounds,
-        &mut registers,
-        &mut variables,
-        &mut stack,
-        screen,
-        ink,
-        budget,
+        list, env.bounds, registers, variables, &mut stack, screen, ink, budget,
     );
-    let verdict = verdict_of(state_of(registers));
+    let verdict = verdict_of(state_of(env.registers));
     let returns = stack.returns;
     let repeats = stack.repeats;
+    env.stack = returns;
+    env.nesting = stack.nesting;
+    env.repeats = repeats;
     Answer {
         number: verdict.number,
         place: verdict.place,
-        env: Env {
-            bounds,
-            registers,
-            variables,
-            stack: returns,
-            nesting: stack.nesting,
-            repeats,
-        },
+        env,
         steps,
     }
 }

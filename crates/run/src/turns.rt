@@ -54,7 +54,7 @@ pub fn turns<I: Ink>(
             }
         };
         if let Some(brush) = painting {
-            paint(screen, frame(b, &*registers), dipped(brush, ink, opcode));
+            paint(screen, frame(b, registers), dipped(brush, ink, opcode));
         }
     }
     budget

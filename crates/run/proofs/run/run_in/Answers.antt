@@ -1,12 +1,9 @@
 -- `run_in`: refused at the door, or let in with what the loop relies on.
-use Rattle.std.proofs.Common.{ℕ, List, ap, refl, sym, ◌∙◌, length}
-use Rattle.player.specs.Run.{answer}
-use Rattle.player.specs.Shown.{verdict_of}
+use Rattle.std.proofs.Common.{ℕ, List, refl, sym, ◌∙◌, length}
 use Rattle.player.specs.Hosted.{Request}
 use Rattle.player.proofs.Doors.{refused-whole, run-whole}
 use Rattle.rules.specs.Environment.{held}
 use Rattle.rules.proofs.DoorLaws.{opened}
-use Rattle.lent.specs.Lent.{look}
 use Rattle.run.specs.Inks.{machine}
 use Rattle.run.proofs.Doors.{unfit-some}
 use Rattle.run.proofs.run.run_in.Goals as goal
@@ -29,8 +26,6 @@ pub returns : goal.returns
 returns g c =
     let a = c.args in
     let q : Request (List ℕ) = record { list = a.list.now; budget = a.budget } in
-    let z = c.turns-steps.new in
-    let left = look a.env.bounds z.registers z.vars z.stack in
-    ap (λ v. answer v left z.screen c.turns-steps.result) (c.verdict_of-verdict.ensures ∙ ap verdict_of c.state_of.ensures)
-    ∙ (c.turns-steps.ensures
+    rw (c.verdict_of-verdict.ensures, c.state_of.ensures)
+    (c.turns-steps.ensures
     ∙ run-whole (machine (g.I.Ink.hue a.ink.now)) q (held a.env) a.screen.now _ (c.in_default.ensures a.list.now a.env.variables refl) refl)

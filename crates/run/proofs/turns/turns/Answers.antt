@@ -1,5 +1,5 @@
 -- `turns`: the run from the start is the run from here, with what is left of the budget.
-use Rattle.std.proofs.Common.{◌∙◌, arith}
+use Rattle.std.proofs.Common.{arith}
 use Rattle.player.proofs.Turning.{Turned}
 use Rattle.rules.specs.Step.{afgis}
 use Rattle.lent.specs.Lent.{look}
@@ -36,7 +36,7 @@ loop-steps-preserved g c =
     let e₁ = look a.b z.registers z.vars z.stack in
     let turned : Turned (inked h (afgis a.words.now)) e i.screen e₁ c.match-painting.screen = elim c.match-painting.branch [
       | in-Some w ↦ painted-in h a.words.now e c.step.result e₁ (c.step.ensures a.b) w.dipped.result c.in-Ok.is w.in-Some.is
-          w.dipped.ensures.figure w.dipped.ensures.colour (w.frame.ensures z.vars z.stack) (w.screen-is ∙ w.paint.ensures)
+          w.dipped.ensures.figure w.dipped.ensures.colour (w.frame.ensures z.vars z.stack) w.screen-is w.paint.ensures
       | in_default w ↦ quiet-in h a.words.now e c.step.result e₁ (c.step.ensures a.b) c.in-Ok.is w.in_default.is w.screen-is
     ] in
     went_on i.invariant c.if-registers-ne0.false c.step.result z.registers z.vars z.stack c.step.ensures turned c.loop-steps-test.true
