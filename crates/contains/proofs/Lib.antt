@@ -1,3 +1,4 @@
 -- The laws that proofs cite, here and in the crates above:
 pub mod Offsets
 pub mod Members
+pub mod Figures
