@@ -7,7 +7,7 @@ use Rattle.raster.specs.declared.frame.Bounds.{Bounds}
 use Rattle.rules.specs.declared.environment.Registers.{Registers}
 use Rattle.rules.specs.declared.opcode.Operands.{Operands}
 use Rattle.rules.specs.Op as Op
-use Rattle.rules.specs.Environment.{Env, start, firsts, goto}
+use Rattle.rules.specs.Environment.{Env, start, firsts}
 use Rattle.rules.specs.Opcodes.{calls, rule}
 use Rattle.rules.proofs.StackLaws.{length-firsts, push, pop, each}
 use Rattle.lent.specs.declared.Stack.{Stack}

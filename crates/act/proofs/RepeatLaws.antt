@@ -11,7 +11,7 @@ use Rattle.rules.specs.declared.environment.Registers.{Registers}
 use Rattle.rules.specs.declared.environment.Repeat.{Repeat}
 use Rattle.rules.specs.declared.opcode.Operands.{Operands}
 use Rattle.rules.specs.Op as Op
-use Rattle.rules.specs.Environment.{Env, repeat, over, firsts, goto}
+use Rattle.rules.specs.Environment.{Env, repeat, over, firsts}
 use Rattle.rules.specs.Opcodes.{rule, countable}
 use Rattle.rules.proofs.StackLaws.{length-firsts, push, pop, each}
 use Rattle.lent.specs.declared.Stack.{Stack}

@@ -2,3 +2,4 @@
 pub mod Offsets
 pub mod Members
 pub mod Distances
+pub mod Figures

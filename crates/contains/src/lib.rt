@@ -27,6 +27,7 @@ fn on_dot(p: Spot, d: Pixel) -> bool
 }
 
 // The shape that the brush holds, moved to the origin, has a dot in this pixel.
+#[tactic(auto, using(crate::proofs::Figures::figures))]
 fn on_shape(brush: Brush, o: Dot, d: Pixel) -> bool
     requires { Word o.x × Word o.y }
     ensures { result ≡ moved_by o (shape_of brush.figure) (pos d.column) (pos d.row) }
