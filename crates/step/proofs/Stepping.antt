@@ -1,11 +1,11 @@
 -- What a step may rely on, and that a group's promise is the rules' step.
-use Rattle.std.proofs.Common.{◌≡◌, ℕ, ◌+◌, ◌<◌, ◌≤◌, Bool, true, false, List, length, Ok, Err, refl, sym, ap, ◌∙◌, arith}
+use Rattle.std.proofs.Common.{◌≡◌, ℕ, ◌+◌, ◌<◌, ◌≤◌, Bool, true, false, List, length, Ok, Err, refl, sym, ap, arith}
 use mathlib.Core.Bool.{cond}
 use borrow.Author.Tests.{leb-true}
 use lib.Dec.{ltb}
 use Rattle.numbers.specs.declared.place.WordIndex.{WordIndex}
 use Rattle.raster.specs.declared.frame.Bounds.{Bounds}
-use Rattle.player.specs.Player.{fault, Outcome, refused}
+use Rattle.player.specs.Player.{fault, Outcome}
 use Rattle.rules.specs.declared.environment.Registers.{Registers}
 use Rattle.rules.specs.declared.opcode.Operands.{Operands}
 use Rattle.rules.specs.Table.{form_of}
@@ -21,8 +21,8 @@ use Rattle.fetch.proofs.Steps as Fetched
 use Rattle.lent.specs.declared.Stack.{Stack}
 use Rattle.lent.specs.Lent.{look}
 use Rattle.lent.specs.Leaves.{Stacked}
-use Rattle.lent.specs.Shown.{Shown, Upshot, seen, shown, does, answers}
-use Rattle.step.specs.Steps.{shows, Able, Steps}
+use Rattle.lent.specs.Shown.{seen, shown, does, answers}
+use Rattle.step.specs.Steps.{shows, Able}
 
 module _ {w : List ℕ} {r : Registers} {vs : List ℕ} {st : Stack} (ready : Able w r vs st) where
   -- an environment that is in range
