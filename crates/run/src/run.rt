@@ -1,6 +1,7 @@
 // The whole call: refused at the door with nothing changed, or run.
 ghost use Rattle.std.specs.Prelude.{◌≡◌};
 ghost use Rattle.player.specs.Hosted.{answered};
+ghost use Rattle.player.specs.Refusals.{unfit_number};
 ghost use Rattle.player.specs.Shown.{verdict_of};
 ghost use Rattle.rules.specs.Environment.{held};
 ghost use Rattle.rules.specs.Door.{said, Promise};
@@ -11,6 +12,7 @@ use crate::ink::{Ink, Own};
 use crate::turns::turns;
 use lent::Stack;
 use numbers::place::WordIndex;
+use player::refusal::Unfit;
 use player::{State, Verdict, carrying_0};
 use rules::answer::Answer;
 use rules::environment::{Env, state_of};
@@ -27,11 +29,11 @@ pub fn verdict_of(s: State) -> Verdict
 }
 
 // Refused at the door: all is as it was.
-fn refused(number: u8, env: Env) -> Answer
-    ensures { result ≡ record { number = number; place = record { 0 = 0 }; env = env; steps = 0 } }
+fn refused(unfit: Unfit, env: Env) -> Answer
+    ensures { result ≡ record { number = unfit_number unfit; place = record { 0 = 0 }; env = env; steps = 0 } }
 {
     Answer {
-        number,
+        number: unfit.number(),
         place: WordIndex(0),
         env,
         steps: 0,
@@ -58,7 +60,7 @@ pub fn run_in<I: Ink>(list: &[u16], screen: &mut [u8], mut env: Env, budget: u32
         &stack,
         budget,
     ) {
-        return refused(unfit.number(), env);
+        return refused(unfit, env);
     }
     let registers = &mut env.registers;
     let variables = &mut env.variables;

@@ -42,6 +42,7 @@ pub fn turns<I: Ink>(
         (look b registers.old vars.old stack.old) screen.old 0 }
 {
     for steps in 0..budget {
+        // A byte, as C is told it: 0 runs, and whatever else is in range does not.
         if registers.state != 0 {
             return steps;
         }

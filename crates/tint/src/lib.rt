@@ -12,7 +12,7 @@ use run::run::run_in;
 
 // Each opcode has a tint, told by its index.
 #[derive(Clone, Copy)]
-pub struct Tint;
+struct Tint;
 
 impl Ink for Tint {
     ghost hue = { λ ink opcode own. tint opcode };
@@ -23,7 +23,7 @@ impl Ink for Tint {
 }
 
 // Of the opcode at this index. 64 bits hold the product, whatever the index.
-pub fn tint_of(i: WordIndex) -> u8
+fn tint_of(i: WordIndex) -> u8
     ensures { result ≡ tint i }
 {
     (16 + i.0 as u64 * 149 % 240) as u8

@@ -13,8 +13,8 @@ returns-in-Err g c =
     let a = c.args in
     let q : Request (List ℕ) = record { list = a.list.now; budget = a.budget } in
     rw c.refused.ensures
-    (refused-whole (machine (g.I.Ink.hue a.ink.now)) q (held a.env) a.screen.now _ (c.number.ensures ∙ c.in-Err.ensures a.list.now a.env.variables refl)
-    (λ z. unfit-some c.in-Err.unfit (sym c.number.ensures ∙ z)))
+    (refused-whole (machine (g.I.Ink.hue a.ink.now)) q (held a.env) a.screen.now _ (c.in-Err.ensures a.list.now a.env.variables refl)
+    (unfit-some c.in-Err.unfit))
 
 pub turns-steps-requires : goal.turns-steps-requires
 turns-steps-requires g c =
