@@ -11,6 +11,7 @@ ghost use Rattle.wording.specs.Wording.{text_of, words_of};
 use lines::line::SOLID;
 use lit::{LitDots, lit};
 use numbers::place::WordIndex;
+use player::refusal::Unfit;
 use raster::dots::Dot;
 use raster::frame::{Bounds, Pane, Window};
 use rules::answer::{Answer, Made};
@@ -83,13 +84,13 @@ pub fn fresh(width: u32, height: u32, pane: Pane) -> Made
     };
     if !size_fits(b) {
         return Made {
-            number: 10,
+            number: Unfit::Size.number(),
             env: zeros(),
         };
     }
     if !pane_fits(b) {
         return Made {
-            number: 12,
+            number: Unfit::Field.number(),
             env: zeros(),
         };
     }

@@ -9,11 +9,11 @@ use Rattle.ovenlute.proofs.Making.{bad-size, bad-pane, good}
 use Rattle.ovenlute.proofs.fresh.Goals as goal
 
 pub returns-then-not-size_fits : goal.returns-then-not-size_fits
-returns-then-not-size_fits c = ap (making 10) c.zeros.ensures ∙ bad-size _ (sym c.size_fits.ensures ∙ c.if-not-size_fits.true)
+returns-then-not-size_fits c = (λ i. making (c.number.ensures i) (c.zeros.ensures i)) ∙ bad-size _ (sym c.size_fits.ensures ∙ c.if-not-size_fits.true)
 
 pub returns-then-not-pane_fits : goal.returns-then-not-pane_fits
 returns-then-not-pane_fits c =
-    ap (making 12) c.zeros-then-not-pane_fits.ensures
+    (λ i. making (c.number-then-not-pane_fits.ensures i) (c.zeros-then-not-pane_fits.ensures i))
     ∙ bad-pane _ (sym c.size_fits.ensures ∙ c.if-not-size_fits.false) (sym c.pane_fits.ensures ∙ c.if-not-pane_fits.true)
 
 -- what both tests told of the size and the pane
