@@ -52,6 +52,10 @@ module _ {g : Figure} (near : is_near g ≡ true) where
   pub of-outline : {k : Circle} → g ≡ Figures.Outline k → Words k.centre × (is_radius k.radius ≡ true)
   of-outline {k} e = round k (rw e at near)
 
+-- nothing is asked of every dot
+pub unasked : is_near Figures.Every ≡ true
+unasked = refl
+
 -- ---- a radius is a natural number
 pub radius-small : (z : ℤ) → is_radius z ≡ true → nat_abs z < 32768
 unfolding is_radius

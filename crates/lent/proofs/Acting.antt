@@ -9,7 +9,7 @@ use Rattle.raster.specs.Frame.{drawable}
 use Rattle.player.specs.declared.Verdict.{Verdict}
 use Rattle.player.specs.Painting.{Painting, placed, nothing}
 use Rattle.player.specs.Player.{fault, Outcome, done, refused}
-use Rattle.player.specs.Shown.{marks, went}
+use Rattle.player.specs.Shown.{marks, unmarked, went}
 use Rattle.numbers.specs.declared.place.WordIndex.{WordIndex}
 use Rattle.rules.specs.Environment.{Env, goto, frame}
 use Rattle.rules.specs.Opcodes.{Rule, paints}
@@ -75,19 +75,21 @@ module _ (rule : Env → Rule) (next : WordIndex) (e : Env) where
   unfolding does carried
   past f k same x = goes k (rw same at x)
 
+  -- where the shape is empty, no dot is painted
+  pub paints-nothing : {X : Shown} → lowest r ≡ None → painting r e ≡ nothing (frame e) → X ≡ went r.env (unmarked e.bounds) → X ≡ does rule next e
+  paints-nothing k empty x =
+      goes k
+      (x ∙ ap (λ (d : Shape). went r.env (record { bounds = e.bounds; dots = d; colour = 0 })) (sym (no-dots (frame e)))
+      ∙ ap (λ (y : Painting). went r.env (marks y)) (sym empty))
+
   -- one that breaks none, where e' is left: the shape S is painted in the colour c, the frame that of before
   module _ {e' : Env} (k : lowest r ≡ None) (env : e' ≡ r.env) where
     pub drawn : (S : Shape) (c : ℕ) → frame r.env ≡ frame e → S ≡ r.shape → c ≡ r.colour → went e' (marks (placed (frame e') S c)) ≡ does rule next e
     drawn S c framed shape colour =
         goes k (rw (env, shape, colour) (ap (λ (f : Frame). went r.env (marks (placed f r.shape r.colour))) framed))
 
-    -- where the shape is empty, no dot is painted
     pub quiet : r.env.bounds ≡ e.bounds → painting r e ≡ nothing (frame e) → seen (Ok None) e' ≡ does rule next e
-    quiet bounds empty =
-        goes k
-        (rw (env, bounds)
-        (ap (λ (d : Shape). went r.env (record { bounds = e.bounds; dots = d; colour = 0 })) (sym (no-dots (frame e)))
-        ∙ ap (λ (y : Painting). went r.env (marks y)) (sym empty)))
+    quiet bounds empty = paints-nothing k empty (rw (env, bounds) refl)
 
 -- what is handed back is a refusal, of which something is shown
 pub told : (e : Env) {u : Upshot} {v w : Verdict} {X : Shown} → u ≡ Err v → v ≡ w → seen (Err w) e ≡ X → seen u e ≡ X
