@@ -1,5 +1,5 @@
 // What was fetched is carried out, or refused: with 22 or 23 as it was fetched, or with one of 24 to 29 where the opcode begins.
-// Then the state has the refusal, and nothing else is changed. Here are the opcodes that draw nothing.
+// A refused one changes nothing here: the loop stops the environment. Here are the opcodes that draw nothing.
 #![tactic(auto)]
 
 pub mod values; // variables and the values compared

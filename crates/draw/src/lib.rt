@@ -3,4 +3,4 @@
 
 mod point; // two values, or two offsets, as a point
 pub mod pen; // clip mode and window, colour, position
-pub mod painting; // dots, lines and clearing, held in the brush
+pub mod painting; // dots, lines and clearing, as a brush

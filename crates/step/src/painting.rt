@@ -1,4 +1,4 @@
-// The opcodes that paint: what is to be painted is left in the brush.
+// The opcodes that paint: what is to be painted is answered, as a brush.
 ghost use Rattle.std.specs.Prelude.{◌≡◌, true};
 ghost use Rattle.rules.specs.Meaning as Meaning;
 ghost use Rattle.rules.specs.Opcodes.{dot_fits};
