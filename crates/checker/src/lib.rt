@@ -7,8 +7,9 @@ mod reading; // sequences of opcodes and blocks
 ghost use Rattle.std.specs.Prelude.{◌≡◌};
 ghost use Rattle.checker.specs.Checked.{answered, checked, Promise};
 
-use crate::reading::{Closer, sequence};
+use crate::reading::{Closer, refused, sequence};
 use numbers::place::WordIndex;
+use player::refusal::{Refusal, Unfit};
 use player::{Verdict, carrying_0};
 
 // What is stated of a list: 0 and the steps to its EODL; or the number that it is refused with, 0 steps and, with 20 to 30, the index of
@@ -40,24 +41,24 @@ impl From<Result<u32, Verdict>> for Checked {
     }
 }
 
+// More than 1,000,000 steps to the EODL, that one counted: here too the rules have no name.
+const TOO_LONG: u8 = 31;
+
 // The steps to the EODL and it, or why the list is refused.
 fn steps_of(list: &[u16]) -> Result<u32, Verdict>
     ensures { answered result ≡ checked list.now }
 {
     if list.len() > 65536 {
-        return Err(carrying_0(13));
+        return Err(carrying_0(Unfit::List.number()));
     }
     let whole = sequence(list, WordIndex(0), 8)?;
     match whole.by {
-        Closer::Erpt => Err(Verdict {
-            number: 29,
-            place: whole.place,
-        }),
+        Closer::Erpt => Err(refused(Refusal::NoneOpen, whole.place)),
         Closer::Eodl => {
             if whole.steps < 1000000 {
                 Ok(whole.steps + 1)
             } else {
-                Err(carrying_0(31))
+                Err(carrying_0(TOO_LONG))
             }
         }
     }

@@ -1,5 +1,7 @@
 // A sequence of opcodes, each of which may be a block holding a sequence again: two readers that call each other.
 ghost use Rattle.std.specs.Prelude.{◌≡◌, ◌≤◌, ◌<◌, length};
+ghost use Rattle.player.specs.Player.{fault};
+ghost use Rattle.player.specs.Refusals.{number_of};
 ghost use Rattle.checker.specs.Reading.{sequence_at, block_at};
 ghost use Rattle.checker.specs.Sums.{capped, capped_block};
 
@@ -9,6 +11,7 @@ use forms::layout::{Layout, layout_of};
 use numbers::place::WordIndex;
 use numbers::value::extend;
 use player::Verdict;
+use player::refusal::Refusal;
 
 // What closes a sequence.
 #[derive(Clone, Copy)]
@@ -16,6 +19,9 @@ pub enum Closer {
     Eodl,
     Erpt,
 }
+
+// The end of the list inside a block: no call is refused so, and the rules have no name for it.
+const END_IN_BLOCK: u8 = 30;
 
 // A sound sequence: what closes it, where that stands, and the steps before it.
 #[derive(Clone, Copy)]
@@ -32,6 +38,16 @@ pub struct Behind {
     pub steps: u32,
 }
 
+// As in a call: the opcode at `place` would be refused.
+pub fn refused(why: Refusal, place: WordIndex) -> Verdict
+    ensures { result ≡ fault (number_of why) place }
+{
+    Verdict {
+        number: why.number(),
+        place,
+    }
+}
+
 // The sequence that begins at `from`, with room for so many blocks in one another.
 #[cycle(block_sequence)]
 pub fn sequence(list: &[u16], from: WordIndex, room: u32) -> Result<Closed, Verdict>
@@ -46,7 +62,7 @@ pub fn sequence(list: &[u16], from: WordIndex, room: u32) -> Result<Closed, Verd
         match layout_of(form_of(list[at])) {
             Layout::Plain(words) => {
                 if list.len() - at < words as usize {
-                    return Err(Verdict { number: 22, place });
+                    return Err(refused(Refusal::Cut, place));
                 }
                 place = place.past(words);
                 steps = cap(steps + 1);
@@ -66,10 +82,10 @@ pub fn sequence(list: &[u16], from: WordIndex, room: u32) -> Result<Closed, Verd
                 place = inner.next;
                 steps = cap(steps + inner.steps);
             }
-            Layout::Strange | Layout::Flow(_) => return Err(Verdict { number: 21, place }),
+            Layout::Strange | Layout::Flow(_) => return Err(refused(Refusal::Unknown, place)),
         }
     }
-    Err(Verdict { number: 20, place })
+    Err(refused(Refusal::PastEnd, place))
 }
 
 // The block whose RPT stands at `place`: RPT counts once, the sequence inside and its ERPT once a pass.
@@ -80,19 +96,19 @@ fn block(list: &[u16], place: WordIndex, room: u32) -> Result<Behind, Verdict>
 {
     let at = place.0 as usize;
     if list.len() - at < 2 {
-        return Err(Verdict { number: 22, place });
+        return Err(refused(Refusal::Cut, place));
     }
     let count = extend(list[at + 1]);
     if count == 0 || 1000 < count {
-        return Err(Verdict { number: 24, place });
+        return Err(refused(Refusal::NotAllowed, place));
     }
     if room == 0 {
-        return Err(Verdict { number: 28, place });
+        return Err(refused(Refusal::TooDeep, place));
     }
     let inside = sequence(list, place.past(2), room - 1)?;
     match inside.by {
         Closer::Eodl => Err(Verdict {
-            number: 30,
+            number: END_IN_BLOCK,
             place: inside.place,
         }),
         Closer::Erpt => Ok(Behind {
