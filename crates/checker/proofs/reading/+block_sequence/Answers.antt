@@ -32,14 +32,16 @@ module _ {w : List ℕ} {pc : WordIndex} {c : ℕ} (long : 2 ≤ length w - pc.0
   counted some few = record { counts = counts; some = pos_of_ne-zero some; few = few }
 
 pub block-returns-then-list-at-lt2 : goal.block-returns-then-list-at-lt2
-block-returns-then-list-at-lt2 t c = Blocks.cut _ _ _ (omega (arith, c.if-list-at-lt2.true, c.requires.1))
+block-returns-then-list-at-lt2 t c = rw c.refused.ensures (Blocks.cut _ _ _ (omega (arith, c.if-list-at-lt2.true, c.requires.1)))
 
 pub block-returns-then-count-eq0 : goal.block-returns-then-count-eq0
-block-returns-then-count-eq0 t c = bad-passes _ (counts c.if-list-at-lt2.false c.extend-count.ensures) c.then-count-eq0.either
+block-returns-then-count-eq0 t c =
+    rw c.refused-then-count-eq0.ensures (bad-passes _ (counts c.if-list-at-lt2.false c.extend-count.ensures) c.then-count-eq0.either)
 
 pub block-returns-then-room-eq0 : goal.block-returns-then-room-eq0
 block-returns-then-room-eq0 t c =
-    full (counted c.if-list-at-lt2.false c.extend-count.ensures c.if-count-eq0.false c.if-count-gt1000.false) _ c.if-room-eq0.true
+    rw c.refused-then-room-eq0.ensures
+    (full (counted c.if-list-at-lt2.false c.extend-count.ensures c.if-count-eq0.false c.if-count-gt1000.false) _ c.if-room-eq0.true)
 
 pub block-returns-in_err-inside : goal.block-returns-in_err-inside
 block-returns-in_err-inside t c =
@@ -83,8 +85,9 @@ met read inside of form = record { read = read; inside = inside; is = of ∙ by_
 
 pub sequence-returns-then-list-at : goal.sequence-returns-then-list-at
 sequence-returns-then-list-at t c =
-    cut (met c.loop-place.invariant c.loop-place-test.true c.in-Plain.ensures c.form_of.ensures)
-    (omega (arith, c.if-list-at.true, c.loop-place-test.true))
+    rw c.refused.ensures
+    (cut (met c.loop-place.invariant c.loop-place-test.true c.in-Plain.ensures c.form_of.ensures)
+    (omega (arith, c.if-list-at.true, c.loop-place-test.true)))
 
 pub sequence-loop-place-preserved-in-Plain : goal.sequence-loop-place-preserved-in-Plain
 sequence-loop-place-preserved-in-Plain t c =
@@ -122,7 +125,8 @@ sequence-loop-place-preserved t c =
 
 pub sequence-returns-in-Strange : goal.sequence-returns-in-Strange
 sequence-returns-in-Strange t c =
-    foreign (met c.loop-place.invariant c.loop-place-test.true c.layout_of.ensures c.form_of.ensures) c.in-Strange.is
+    rw c.refused-in-Strange.ensures
+    (foreign (met c.loop-place.invariant c.loop-place-test.true c.layout_of.ensures c.form_of.ensures) c.in-Strange.is)
 
 pub sequence-returns : goal.sequence-returns
-sequence-returns t c = out c.loop-place.invariant c.loop-place-test.false
+sequence-returns t c = rw c.refused-2.ensures (out c.loop-place.invariant c.loop-place-test.false)
