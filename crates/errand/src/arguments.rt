@@ -141,36 +141,14 @@ fn list_asked(rt: HostRuntime, first: usize) -> Option<Given>
         7 => {
             let names = &["width", "height", "left", "top", "right", "bottom"];
             let [width, height, left, top, right, bottom] = numbers::<6>(rt, first, names)?;
-            Some(Given {
-                first,
-                width,
-                height,
-                pane: Pane {
-                    left,
-                    top,
-                    right,
-                    bottom,
-                },
-                budget: BUDGET,
-            })
+            Some(on_part(first, [width, height], [left, top, right, bottom], BUDGET))
         }
         8 => {
             let names = &[
                 "width", "height", "left", "top", "right", "bottom", "budget",
             ];
             let [width, height, left, top, right, bottom, budget] = numbers::<7>(rt, first, names)?;
-            Some(Given {
-                first,
-                width,
-                height,
-                pane: Pane {
-                    left,
-                    top,
-                    right,
-                    bottom,
-                },
-                budget,
-            })
+            Some(on_part(first, [width, height], [left, top, right, bottom], budget))
         }
         _ => page_asked(rt, first),
     }
@@ -195,19 +173,7 @@ fn who_asked(rt: HostRuntime, first: usize) -> Option<Wish>
                 "width", "height", "x", "y", "left", "top", "right", "bottom",
             ];
             let [width, height, x, y, left, top, right, bottom] = numbers::<8>(rt, first, names)?;
-            let pane = Pane {
-                left,
-                top,
-                right,
-                bottom,
-            };
-            let given = Given {
-                first,
-                width,
-                height,
-                pane,
-                budget: BUDGET,
-            };
+            let given = on_part(first, [width, height], [left, top, right, bottom], BUDGET);
             Some(Wish::Who(given, x, y))
         }
         10 => {
@@ -217,19 +183,7 @@ fn who_asked(rt: HostRuntime, first: usize) -> Option<Wish>
             let [width, height, x, y, left, top, right, bottom, budget] = numbers::<9>(
                 rt, first, names,
             )?;
-            let pane = Pane {
-                left,
-                top,
-                right,
-                bottom,
-            };
-            let given = Given {
-                first,
-                width,
-                height,
-                pane,
-                budget,
-            };
+            let given = on_part(first, [width, height], [left, top, right, bottom], budget);
             Some(Wish::Who(given, x, y))
         }
         _ => wrong(rt),
@@ -271,6 +225,24 @@ fn on_whole(first: usize, width: u32, height: u32, budget: u32) -> Given {
         width,
         height,
         pane: whole(width, height),
+        budget,
+    }
+}
+
+// A pane by its sides: left, top, right, bottom.
+fn on_part(first: usize, size: [u32; 2], sides: [u32; 4], budget: u32) -> Given {
+    let [width, height] = size;
+    let [left, top, right, bottom] = sides;
+    Given {
+        first,
+        width,
+        height,
+        pane: Pane {
+            left,
+            top,
+            right,
+            bottom,
+        },
         budget,
     }
 }

@@ -109,7 +109,7 @@ fn form_at(list: &[u16], at: WordIndex) -> Form {
     form_of(word(list, at))
 }
 
-// A place of 21 to 29 is inside the list; elsewhere there would be none to tell.
+// A place of 21 to 30 is inside the list; elsewhere there would be none to tell.
 fn word(list: &[u16], at: WordIndex) -> u16 {
     list.get(at.0 as usize).copied().unwrap_or(0)
 }
