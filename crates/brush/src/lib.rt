@@ -56,6 +56,7 @@ pub fn radius_of(k: Circle) -> u32
 }
 
 // The drawable dots of what the brush holds, moved to the frame's origin, in its colour.
+#[tactic(auto, using(crate::proofs::Placing::placings))]
 pub fn paint(screen: &mut [u8], f: Frame, brush: Brush)
     requires { Fitting f screen.old }
     ensures { screen.new ≡ Paint.paint f (moved_by f.origin (shape_of brush.figure)) brush.colour screen.old }

@@ -10,9 +10,12 @@ fn past_root(n: u32, from: u32) -> u32
     requires { (n < 32768 * 32768) × (from ≤ 32768) × ((from - 1) * (from - 1) ≤ n) }
     ensures { Past n result }
 {
-    for e in from..from + 16 {
-        if n < e * e {
-            return e;
+    let last = from + 16;
+    if n < last * last {
+        for e in from..last + 1 {
+            if n < e * e {
+                return e;
+            }
         }
     }
     n.isqrt() + 1
