@@ -22,13 +22,12 @@ pub none : (words room : List ℕ) → Puts (bytes_of (take 0 words)) room 0 roo
 unfolding bytes_of
 none words room = record { stored = refl; place = refl }
 
-pub one_word : (words : List ℕ) {room₀ room room' bytes : List ℕ} (i : ℕ) {at end : ℕ} → i < length words → Puts (bytes_of (take i words)) room₀ 0 room at
-    → bytes ≡ low_of (get_or words i 0) ∷ (high_of (get_or words i 0) ∷ []) → Puts bytes room at room' end → Puts (bytes_of (take (i + 1) words)) room₀ 0 room' end
+pub one_word : (words : List ℕ) {room₀ room room' : List ℕ} (i : ℕ) {at end : ℕ} → i < length words → Puts (bytes_of (take i words)) room₀ 0 room at
+    → Puts (low_of (get_or words i 0) ∷ (high_of (get_or words i 0) ∷ [])) room at room' end → Puts (bytes_of (take (i + 1) words)) room₀ 0 room' end
 unfolding bytes_of
-one_word words {room₀} {room} {room'} i {at} {end} h p e q =
+one_word words {room₀} {room} {room'} i {at} {end} h p q =
     let all = sym (ap bytes_of (ap (λ (n : ℕ). take n words) (add-one i) ∙ take-suc words i 0 h) ∙ behind (take i words) (get_or words i 0 ∷ [])) in
-    let last = subst (λ (s : List ℕ). Puts s room at room' end) e q in
-    subst (λ (s : List ℕ). Puts s room₀ 0 room' end) all (and_then p last)
+    subst (λ (s : List ℕ). Puts s room₀ 0 room' end) all (and_then p q)
 
 -- where they end
 pub room-on : (words : List ℕ) (i : ℕ) {room₀ room : List ℕ} {at : ℕ} → Puts (bytes_of (take i words)) room₀ 0 room at

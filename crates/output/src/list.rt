@@ -1,11 +1,11 @@
 // Writes a list to standard output: two bytes a word, the low one first.
-ghost use Rattle.std.specs.Prelude.{◌≡◌, ◌/◌, length, take};
+ghost use Rattle.std.specs.Prelude.{◌≡◌, ◌+◌, ◌/◌, ◌≤◌, [], ◌∷◌, length, take};
 ghost use Rattle.std.proofs.lemmas.List.Edits.{sets};
 ghost use Rattle.io.specs.Counts.{IsPrefixLen};
-ghost use Rattle.output.specs.Bytes.{bytes_of};
+ghost use Rattle.text.specs.Puts.{Puts};
+ghost use Rattle.output.specs.Bytes.{low_of, high_of, bytes_of};
 
 use std::io::Error;
-use text::join::put_whole;
 
 // Words in a part.
 const PART: usize = 32768;
@@ -33,7 +33,18 @@ fn put_bytes(words: &[u16], room: &mut [u8]) -> usize
     let fitting = &words[..(room.len() / 2).min(words.len())];
     let mut at = 0;
     for word in fitting {
-        at = put_whole(&word.to_le_bytes(), room, at);
+        at = put_word(*word, room, at);
     }
     at
+}
+
+// The low byte and the high one, each by a store of its own.
+fn put_word(word: u16, room: &mut [u8], at: usize) -> usize
+    requires { at + 2 ≤ length room.old }
+    ensures { Puts (low_of word ∷ high_of word ∷ []) room.old at room.new result }
+{
+    let [low, high] = word.to_le_bytes();
+    room[at] = low;
+    room[at + 1] = high;
+    at + 2
 }

@@ -24,12 +24,12 @@ pub no-dot : (dots room : List ℕ) → Puts (painted (take 0 dots)) room 0 room
 unfolding painted
 no-dot dots room = record { stored = refl; place = refl }
 
-pub one-dot : (dots : List ℕ) {room₀ room room' bytes : List ℕ} (i : ℕ) {at end : ℕ} {c : Colour} → i < length dots → Puts (painted (take i dots)) room₀ 0 room at
-    → c ≡ colour_of (get_or dots i 0) → bytes ≡ c.red ∷ (c.green ∷ (c.blue ∷ [])) → Puts bytes room at room' end
+pub one-dot : (dots : List ℕ) {room₀ room room' : List ℕ} (i : ℕ) {at end : ℕ} {c : Colour} → i < length dots → Puts (painted (take i dots)) room₀ 0 room at
+    → c ≡ colour_of (get_or dots i 0) → Puts (c.red ∷ (c.green ∷ (c.blue ∷ []))) room at room' end
     → Puts (painted (take (i + 1) dots)) room₀ 0 room' end
 unfolding painted
-one-dot dots i h p e f q =
-    let last = f ∙ ap (λ (k : Colour). k.red ∷ (k.green ∷ (k.blue ∷ []))) e in
+one-dot dots i h p e q =
+    let last = ap (λ (k : Colour). k.red ∷ (k.green ∷ (k.blue ∷ []))) e in
     let all = sym (ap painted (ap (λ (n : ℕ). take n dots) (add-one i) ∙ take-suc dots i 0 h) ∙ painted-append (take i dots) (get_or dots i 0 ∷ [])) in
     named all (and_then p (named last q))
 

@@ -1,5 +1,6 @@
 // The colour of a byte: 004's default palettes, the one of 16 colours for 0 to 15 and the one of 256 above.
-ghost use Rattle.std.specs.Prelude.{◌≡◌, [], ◌∷◌};
+ghost use Rattle.std.specs.Prelude.{◌≡◌, ◌+◌, ◌≤◌, [], ◌∷◌, length};
+ghost use Rattle.text.specs.Puts.{Puts};
 ghost use Rattle.picture.specs.Colours.{rgb as rgb_of, of256, colour_of};
 
 #[derive(Clone, Copy)]
@@ -10,10 +11,15 @@ pub struct Colour {
 }
 
 impl Colour {
-    pub(crate) fn bytes(self) -> [u8; 3]
-        ensures { result ≡ self.red ∷ self.green ∷ self.blue ∷ [] }
+    // Puts its three bytes into the room, each by a store of its own, and answers where they end.
+    pub(crate) fn put(self, room: &mut [u8], at: usize) -> usize
+        requires { at + 3 ≤ length room.old }
+        ensures { Puts (self.red ∷ self.green ∷ self.blue ∷ []) room.old at room.new result }
     {
-        [self.red, self.green, self.blue]
+        room[at] = self.red;
+        room[at + 1] = self.green;
+        room[at + 2] = self.blue;
+        at + 3
     }
 }
 

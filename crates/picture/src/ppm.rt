@@ -5,7 +5,6 @@ ghost use Rattle.picture.specs.Colours.{painted};
 ghost use Rattle.io.specs.Counts.{IsPrefixLen};
 
 use crate::palette::colour_of;
-use text::join::put_whole;
 
 // Puts three bytes for each dot into the room, as many as fit, and answers where they end: a count, which cannot fail.
 pub fn put_colours(dots: &[u8], room: &mut [u8]) -> usize
@@ -16,7 +15,7 @@ pub fn put_colours(dots: &[u8], room: &mut [u8]) -> usize
     let fitting = &dots[..(room.len() / 3).min(dots.len())];
     let mut at = 0;
     for dot in fitting {
-        at = put_whole(&colour_of(*dot).bytes(), room, at);
+        at = colour_of(*dot).put(room, at);
     }
     at
 }

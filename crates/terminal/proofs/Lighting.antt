@@ -33,6 +33,12 @@ root-capped (suc k) n r low high = by (dec_lt r (suc k)) (root-capped k n r low 
         let same : suc k ≡ min r (suc k) = omega arith in
         ap (λ (b : Bool). cond b (suc k) (root_up_to k n)) (le-leb (square (suc k)) n below) ∙ same
 
+-- the highest of the numbers is the root where its own square is at most n
+pub root-bright : (k n : ℕ) → square k ≤ n → root_up_to k n ≡ k
+unfolding root_up_to
+root-bright zero n h = refl
+root-bright (suc k) n h = ap (λ (b : Bool). cond b (suc k) (root_up_to k n)) (le-leb (square (suc k)) n h)
+
 one-dot : (l : Light) (ds : List ℕ) (i : ℕ) → i < length ds → with_dots (with_colour l (colour_of (get_or ds i 0))) (drop (i + 1) ds) ≡ with_dots l (drop i ds)
 unfolding with_dots
 one-dot l ds i h =

@@ -1,11 +1,11 @@
 // The bytes of a character: the upper half block, with the upper dot's colour on the lower dot's.
 ghost use Rattle.std.specs.Prelude.{◌≡◌, ◌++◌, ◌+◌, ◌≤◌, length};
+ghost use Rattle.text.specs.Bytes.{bytes};
 ghost use Rattle.text.specs.Decimal.{decimal};
 ghost use Rattle.text.specs.Puts.{Puts};
-ghost use Rattle.terminal.specs.Cells.{level as level_of, cube as cube_of, direct, paint, cell, line_end};
+ghost use Rattle.terminal.specs.Cells.{level as level_of, cube as cube_of, direct, numbered, paint, cell, line_end};
 
 use picture::palette::Colour;
-use text::decimal::put_decimal;
 use text::join::put_whole;
 
 // How many colours the terminal has: 24 bits each, or 256.
@@ -50,7 +50,7 @@ fn put_paint(colour: Colour, depth: Depth, room: &mut [u8], at: usize) -> usize
 {
     match depth {
         Depth::Direct => put_direct(colour, room, at),
-        Depth::Cube => put_number(b"5;", cube(colour), room, at),
+        Depth::Cube => put_numbered(colour, room, at),
     }
 }
 
@@ -58,18 +58,47 @@ fn put_direct(colour: Colour, room: &mut [u8], at: usize) -> usize
     requires { at + 13 ≤ length room.old }
     ensures { Puts (direct colour) room.old at room.new result }
 {
-    let a = put_number(b"2;", colour.red, room, at);
-    let b = put_number(b";", colour.green, room, a);
-    put_number(b";", colour.blue, room, b)
+    room[at] = b'2';
+    let a = put_number(colour.red, room, at + 1);
+    let b = put_number(colour.green, room, a);
+    put_number(colour.blue, room, b)
 }
 
-// A number behind some bytes.
-fn put_number(lead: &[u8], n: u8, room: &mut [u8], at: usize) -> usize
-    requires { at + (length lead.now + 3) ≤ length room.old }
-    ensures { Puts (lead.now ++ decimal n) room.old at room.new result }
+fn put_numbered(colour: Colour, room: &mut [u8], at: usize) -> usize
+    requires { at + 5 ≤ length room.old }
+    ensures { Puts (numbered colour) room.old at room.new result }
 {
-    let behind = put_whole(lead, room, at);
-    put_decimal(u32::from(n), room, behind)
+    room[at] = b'5';
+    put_number(cube(colour), room, at + 1)
+}
+
+// A number behind a semicolon.
+fn put_number(n: u8, room: &mut [u8], at: usize) -> usize
+    requires { at + 4 ≤ length room.old }
+    ensures { Puts (bytes ";" ++ decimal n) room.old at room.new result }
+{
+    room[at] = b';';
+    put_digits(n, room, at + 1)
+}
+
+// Up to three digits, each by a store of its own.
+fn put_digits(n: u8, room: &mut [u8], at: usize) -> usize
+    requires { at + 3 ≤ length room.old }
+    ensures { Puts (decimal n) room.old at room.new result }
+{
+    if n < 10 {
+        room[at] = b'0' + n;
+        return at + 1;
+    }
+    if n < 100 {
+        room[at] = b'0' + n / 10;
+        room[at + 1] = b'0' + n % 10;
+        return at + 2;
+    }
+    room[at] = b'0' + n / 100;
+    room[at + 1] = b'0' + n / 10 % 10;
+    room[at + 2] = b'0' + n % 10;
+    at + 3
 }
 
 // The number of the nearest colour of the 6 x 6 x 6.

@@ -65,9 +65,12 @@ fn square(v: u8) -> u64
     wide * wide
 }
 
-// The largest number up to 255 whose square is at most n.
+// The largest number up to 255 whose square is at most n. White needs no search; for the rest eight halvings do.
 fn root(n: u64) -> u8
     ensures { result ≡ root_of n }
 {
-    n.isqrt().min(255) as u8
+    if 65025 <= n {
+        return 255;
+    }
+    (n as u16).isqrt() as u8
 }

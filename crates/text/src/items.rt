@@ -6,7 +6,8 @@ ghost use Rattle.text.specs.Items.{place_of, items, place_in};
 pub fn find(s: &[u8], from: usize, b: u8) -> usize
     ensures { result ≡ from + place_of b (drop from s.now) }
 {
-    from + s.iter().skip(from).take_while(|x| **x != b).count()
+    let rest = &s[from.min(s.len())..];
+    from + rest.iter().take_while(|x| **x != b).count()
 }
 
 // How many items the line has.

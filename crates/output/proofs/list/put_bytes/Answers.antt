@@ -1,6 +1,5 @@
 -- `output::list::put_bytes` meets its contract: the words so far are put.
-use Rattle.std.proofs.Common.{◌≡◌, ℕ, ◌/◌, ◌%◌, ◌<◌, length, get_or, take, min, List, [], ◌∷◌, ap, ◌∙◌, arith}
-use Rattle.std.proofs.Math.Seq.{get_or-take}
+use Rattle.std.proofs.Common.{◌≡◌, ℕ, ◌/◌, length, take, min, List, arith}
 use Rattle.std.proofs.lemmas.List.{length-take}
 use Rattle.output.proofs.Putting.{none, one_word, room-on, all-put}
 use Rattle.output.proofs.list.put_bytes.Goals as goal
@@ -8,19 +7,14 @@ use Rattle.output.proofs.list.put_bytes.Goals as goal
 pub loop-word-init : goal.loop-word-init
 loop-word-init c = none (take c.min.result c.args.words.now) c.args.room.now
 
-pub put_whole-at-requires : goal.put_whole-at-requires
-put_whole-at-requires c =
+pub put_word-at-requires : goal.put_word-at-requires
+put_word-at-requires c =
     let r = room-on (take c.min.result c.args.words.now) c.loop-word.word-index c.loop-word.invariant in
-    omega (arith, length-take c.min.result c.args.words.now, ap length c.to_le_bytes.ensures)
+    omega (arith, length-take c.min.result c.args.words.now)
 
 pub loop-word-preserved : goal.loop-word-preserved
 loop-word-preserved c =
-    let words : List ℕ = take c.min.result c.args.words.now in
-    let i : ℕ = c.loop-word.word-index in
-    let high : get_or words i 0 / 256 % 256 ≡ get_or words i 0 / 256 =
-    let i_fits : i < c.min.result = omega (arith, length-take c.min.result c.args.words.now) in
-    omega (arith, get_or-take c.min.result c.args.words.now i 0 i_fits, c.type_inv.words i) in
-    one_word words i c.loop-word-test.true c.loop-word.invariant (c.to_le_bytes.ensures ∙ ap (λ (k : ℕ). get_or words i 0 % 256 ∷ (k ∷ [])) high) c.put_whole-at.ensures
+    one_word (take c.min.result c.args.words.now) c.loop-word.word-index c.loop-word-test.true c.loop-word.invariant c.put_word-at.ensures
 
 pub returns : goal.returns
 returns c =

@@ -1,5 +1,5 @@
 -- `picture::ppm::put_colours` meets its contract: the dots so far are put.
-use Rattle.std.proofs.Common.{◌≡◌, ◌/◌, length, take, min, ap, arith}
+use Rattle.std.proofs.Common.{◌≡◌, ◌/◌, length, take, min, arith}
 use Rattle.std.proofs.lemmas.List.{length-take}
 use Rattle.picture.proofs.Putting.{no-dot, one-dot, room-on, all-put}
 use Rattle.picture.proofs.ppm.put_colours.Goals as goal
@@ -7,14 +7,14 @@ use Rattle.picture.proofs.ppm.put_colours.Goals as goal
 pub loop-dot-init : goal.loop-dot-init
 loop-dot-init c = no-dot (take c.min.result c.args.dots.now) c.args.room.now
 
-pub put_whole-at-requires : goal.put_whole-at-requires
-put_whole-at-requires c =
+pub put-at-requires : goal.put-at-requires
+put-at-requires c =
     let r = room-on (take c.min.result c.args.dots.now) c.loop-dot.dot-index c.loop-dot.invariant in
-    omega (arith, length-take c.min.result c.args.dots.now, ap length c.bytes.ensures)
+    omega (arith, length-take c.min.result c.args.dots.now)
 
 pub loop-dot-preserved : goal.loop-dot-preserved
 loop-dot-preserved c =
-    one-dot (take c.min.result c.args.dots.now) c.loop-dot.dot-index c.loop-dot-test.true c.loop-dot.invariant c.colour_of.ensures c.bytes.ensures c.put_whole-at.ensures
+    one-dot (take c.min.result c.args.dots.now) c.loop-dot.dot-index c.loop-dot-test.true c.loop-dot.invariant c.colour_of.ensures c.put-at.ensures
 
 pub returns : goal.returns
 returns c =
