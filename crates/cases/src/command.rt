@@ -5,6 +5,7 @@ use crate::lit_dots::lit;
 use crate::print;
 use crate::rooms::{Rooms, SCREEN};
 use crate::runs::run;
+use crate::screen::clear;
 use desk::command::{Command, command_of, well_formed};
 use desk::desk::Desk;
 use desk::fault::Fault;
@@ -51,7 +52,7 @@ fn bytes(line: &[u8], desk: Desk, screen: &mut [u8; SCREEN]) -> Result<Desk, Fau
     if SCREEN < bytes {
         return Err(Fault::Range);
     }
-    screen[..bytes].fill(0);
+    clear(screen, bytes);
     let mut after = desk;
     after.bytes = bytes;
     Ok(after)

@@ -1,6 +1,7 @@
 // Makes a fresh environment: 'fresh W H L T R B'.
 use crate::print;
 use crate::rooms::SCREEN;
+use crate::screen::clear;
 use desk::desk::Desk;
 use desk::fault::Fault;
 use desk::size::{area, read_six};
@@ -10,7 +11,7 @@ use rules::answer::Made;
 pub fn fresh(out: &impl Print, line: &[u8], screen: &mut [u8; SCREEN]) -> Result<Desk, Fault> {
     let [width, height, left, top, right, bottom] = read_six(line)?;
     let bytes = area(width, height);
-    screen[..bytes].fill(0);
+    clear(screen, bytes);
     let pane = Pane {
         left,
         top,

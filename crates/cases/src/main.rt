@@ -10,7 +10,7 @@ mod lit_dots; // counts lit dots
 mod print; // prints lines
 mod rooms; // what is lent for the list and the screen
 mod runs; // runs the list
-mod screen; // prints the screen
+mod screen; // clears and prints the screen
 
 use desk::list::WORDS;
 use file::{TEXT, go_through};

@@ -1,5 +1,16 @@
-// Prints the screen.
+// Clears and prints the screen.
+ghost use Rattle.std.specs.Prelude.{◌≡◌, ◌≤◌, length, replicate};
+ghost use Rattle.std.proofs.lemmas.List.Edits.{sets};
+
 use crate::print::{line, part};
+
+// Zeros in the first `bytes` bytes, and no other byte written.
+pub fn clear(screen: &mut [u8], bytes: usize)
+    requires { bytes ≤ length screen.old }
+    ensures { screen.new ≡ sets screen.old 0 (replicate bytes 0) }
+{
+    screen[..bytes].fill(0);
+}
 
 // Row by row: all rows of a small screen, and of a larger one those that are not all zeros. A width that no row can have makes one row
 // of all bytes.

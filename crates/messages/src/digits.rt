@@ -1,6 +1,7 @@
 // Words and word indices, as sources have them: in hexadecimal.
 ghost use Rattle.std.specs.Prelude.{Some};
 ghost use Rattle.text.specs.Hexadecimal.{hex_digits};
+ghost use Rattle.messages.specs.Digits.{index_digits};
 
 use numbers::place::WordIndex;
 use std::fmt;
@@ -25,12 +26,15 @@ impl fmt::Display for Word {
 pub struct Index(pub WordIndex);
 
 impl fmt::Display for Index {
+    ghost output = { λ index. Some (index_digits index.0.0) };
+
     fn fmt<W: fmt::Write>(&self, f: &mut fmt::Formatter<W>) -> fmt::Result {
         let i = self.0.0;
-        if 65535 < i {
-            f.write_char('1')?;
-        }
         let word = Word((i % 65536) as u16);
-        write!(f, "{word}")
+        if 65535 < i {
+            write!(f, "1{word}")
+        } else {
+            write!(f, "{word}")
+        }
     }
 }

@@ -1,5 +1,5 @@
 // How it ended: the program writes a digit to descriptor 3, and ./play exits with that.
-ghost use Rattle.std.specs.Prelude.{◌≡◌};
+ghost use Rattle.std.specs.Prelude.{◌≡◌, ◌+◌, ◌∷◌, []};
 ghost use Rattle.play.specs.Ends.{none_yet, with_number, end_of, status_of};
 
 use outside::file::read_file;
@@ -41,9 +41,15 @@ pub fn tell(rt: HostRuntime, end: End) {
     }
     if let Ok(file) = OpenOptions::new().append(true).open(&rt, LISTENER) {
         let mut listener = file;
-        let digit = u8::from(end);
-        let _ = writeln!(listener, "{digit}");
+        let _ = listener.write_all(&line_of(end));
     }
+}
+
+// The digit and the end of the line, which are one write.
+fn line_of(end: End) -> [u8; 2]
+    ensures { result ≡ (status_of end + 48) ∷ 10 ∷ [] }
+{
+    [b'0' + u8::from(end), b'\n']
 }
 
 fn is_to_be_written(rt: HostRuntime) -> bool {

@@ -1,6 +1,6 @@
 // The lists of a page.
-ghost use Rattle.std.specs.Prelude.{◌≡◌, ◌<◌, IfSome};
-ghost use Rattle.play.specs.Pages.{with_playing};
+ghost use Rattle.std.specs.Prelude.{◌≡◌, ◌<◌, [], IfSome, is_none, position};
+ghost use Rattle.play.specs.Pages.{no_lists, with_playing};
 
 use errand::arguments::{BUDGET, Given};
 use errand::file::load_list;
@@ -24,7 +24,10 @@ pub struct Playing<'a> {
 
 impl<'a> Playing<'a> {
     // Before its words are read.
-    pub fn named(name: &'a [u8], env: Env, budget: u32) -> Playing<'a> {
+    pub fn named(name: &'a [u8], env: Env, budget: u32) -> Playing<'a>
+        ensures given { result ≡ record result { env = env; name = name.entry; left = budget; steps = 0; number = 0 } }
+        ensures no_words { result.list.now ≡ [] }
+    {
         Playing {
             env,
             name,
@@ -43,7 +46,9 @@ pub struct Page<'a> {
     pub lists: [Option<Playing<'a>>; PLACES],
 }
 
-pub fn empty<'a>() -> Page<'a> {
+pub fn empty<'a>() -> Page<'a>
+    ensures { result ≡ no_lists }
+{
     Page {
         lists: [None; PLACES],
     }
@@ -140,13 +145,15 @@ pub fn with_list<'a>(
 
 // The first place that no list has taken.
 fn vacant(page: &Page<'_>) -> Option<usize>
-    ensures { IfSome result (λ at. at < 8) }
+    ensures within { IfSome result (λ at. at < 8) }
+    ensures first { result ≡ position is_none page.now.lists }
 {
     page.lists.iter().position(|list| list.is_none())
 }
 
 fn with_playing<'a>(page: Page<'a>, at: usize, playing: Playing<'a>) -> Page<'a>
-    requires { at < 8 }
+    requires within { at < 8 }
+    requires vacant { position is_none page.lists ≡ Some at }
     ensures { result ≡ with_playing playing.entry at page.entry }
 {
     let mut p = page;
