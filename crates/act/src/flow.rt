@@ -4,12 +4,12 @@ ghost use Rattle.numbers.specs.declared.place.WordIndex.{WordIndex as Index};
 ghost use Rattle.rules.specs.Op as Op;
 ghost use Rattle.rules.specs.Environment.{Env, goto};
 ghost use Rattle.rules.specs.Opcodes.{jumps, calls, rule};
-ghost use Rattle.lent.specs.Shown.{does};
+ghost use Rattle.lent.specs.Shown.{answers, does};
 ghost use Rattle.lent.specs.Leaves.{Goes, Stacks, Stacked};
 ghost use Rattle.act.specs.Targets.{Targets};
 ghost use Rattle.act.specs.Conditions as Conditions;
 
-use fetch::source::Fetched;
+use fetch::source::Taken;
 use lent::Stack;
 use numbers::arith::{equal, less};
 use numbers::place::{BitAddress, WordIndex, word_at, word_from};
@@ -18,6 +18,7 @@ use player::refusal::Refusal;
 use rules::environment::Registers;
 
 // Whether condition k, by 004's numbers, is met by the values last compared; None where there is no such condition.
+#[inline(always)]
 fn is_met(k: u32, first: u32, second: u32) -> Option<bool>
     ensures { result ≡ Conditions.is_met k first second }
 {
@@ -54,17 +55,21 @@ fn jump_to<F: FnOnce() -> Option<WordIndex>>(
 }
 
 // a: the condition; b: the target's bit address.
-pub fn jump(f: Fetched, count: u32, registers: &mut Registers) -> Upshot
-    ensures { Goes result (does (λ e. rule Op.Jump f.operands count e) f.next) registers.old registers.new }
+#[inline(always)]
+pub fn jump(taken: Taken, count: u32, registers: &mut Registers) -> Upshot
+    ensures { Goes result (answers taken (λ o. rule Op.Jump o count)) registers.old registers.new }
 {
+    let f = taken?;
     let o = f.operands;
     jump_to(o.a, || word_at(BitAddress(o.b), count), f.next, registers)
 }
 
 // a: the condition; b: the offset in words.
-pub fn jump_by(f: Fetched, count: u32, registers: &mut Registers) -> Upshot
-    ensures { Goes result (does (λ e. rule Op.JumpBy f.operands count e) f.next) registers.old registers.new }
+#[inline(always)]
+pub fn jump_by(taken: Taken, count: u32, registers: &mut Registers) -> Upshot
+    ensures { Goes result (answers taken (λ o. rule Op.JumpBy o count)) registers.old registers.new }
 {
+    let f = taken?;
     let o = f.operands;
     jump_to(o.a, || word_from(f.next, o.b, count), f.next, registers)
 }
@@ -91,31 +96,37 @@ fn call_to(
 }
 
 // a: the target's bit address.
-pub fn call(f: Fetched, count: u32, registers: &mut Registers, stack: &mut Stack) -> Upshot
+#[inline(always)]
+pub fn call(taken: Taken, count: u32, registers: &mut Registers, stack: &mut Stack) -> Upshot
     requires { Stacked registers.old stack.old }
-    ensures { Stacks result (does (λ e. rule Op.Call f.operands count e) f.next)
+    ensures { Stacks result (answers taken (λ o. rule Op.Call o count))
         registers.old registers.new stack.old stack.new }
 {
+    let f = taken?;
     let target = word_at(BitAddress(f.operands.a), count);
     call_to(target, f.next, registers, stack)
 }
 
 // a: the offset in words.
-pub fn call_by(f: Fetched, count: u32, registers: &mut Registers, stack: &mut Stack) -> Upshot
+#[inline(always)]
+pub fn call_by(taken: Taken, count: u32, registers: &mut Registers, stack: &mut Stack) -> Upshot
     requires { Stacked registers.old stack.old }
-    ensures { Stacks result (does (λ e. rule Op.CallBy f.operands count e) f.next)
+    ensures { Stacks result (answers taken (λ o. rule Op.CallBy o count))
         registers.old registers.new stack.old stack.new }
 {
+    let f = taken?;
     let target = word_from(f.next, f.operands.a, count);
     call_to(target, f.next, registers, stack)
 }
 
 // To the last return stacked, untested.
-pub fn come_back(f: Fetched, registers: &mut Registers, stack: &Stack) -> Upshot
+#[inline(always)]
+pub fn come_back(taken: Taken, registers: &mut Registers, stack: &Stack) -> Upshot
     requires { Stacked registers.old stack.now }
-    ensures { (n : ℕ) → Stacks result (does (λ e. rule Op.Return f.operands n e) f.next)
+    ensures { (n : ℕ) → Stacks result (answers taken (λ o. rule Op.Return o n))
         registers.old registers.new stack.now stack.now }
 {
+    let f = taken?;
     let depth = registers.depth;
     if depth == 0 {
         return Err(registers.refused(Refusal::NoneOpen));
@@ -125,16 +136,19 @@ pub fn come_back(f: Fetched, registers: &mut Registers, stack: &Stack) -> Upshot
     Ok(None)
 }
 
-pub fn noop(f: Fetched, registers: &mut Registers) -> Upshot
-    ensures { (n : ℕ) → Goes result (does (λ e. rule Op.Noop f.operands n e) f.next) registers.old registers.new }
+#[inline(always)]
+pub fn noop(taken: Taken, registers: &mut Registers) -> Upshot
+    ensures { (n : ℕ) → Goes result (answers taken (λ o. rule Op.Noop o n)) registers.old registers.new }
 {
-    registers.counter = f.next;
+    registers.counter = taken?.next;
     Ok(None)
 }
 
-pub fn end(f: Fetched, registers: &mut Registers) -> Upshot
-    ensures { (n : ℕ) → Goes result (does (λ e. rule Op.End f.operands n e) f.next) registers.old registers.new }
+#[inline(always)]
+pub fn end(taken: Taken, registers: &mut Registers) -> Upshot
+    ensures { (n : ℕ) → Goes result (answers taken (λ o. rule Op.End o n)) registers.old registers.new }
 {
+    let f = taken?;
     registers.state = 1;
     registers.place = WordIndex(0);
     registers.counter = f.next;

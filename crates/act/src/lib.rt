@@ -1,4 +1,4 @@
-// What was fetched is carried out, or refused: with 22 or 23 as it was fetched, or with one of 24 to 29 where the opcode begins.
+// What was taken is carried out, or refused: with 22 or 23 as it was fetched, or with one of 24 to 29 where the opcode begins.
 // A refused one changes nothing here: the loop stops the environment. Here are the opcodes that draw nothing.
 #![tactic(auto)]
 

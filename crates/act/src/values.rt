@@ -5,10 +5,11 @@ ghost use Rattle.rules.specs.Op as Op;
 ghost use Rattle.rules.specs.Opcodes.{gives, rule};
 ghost use Rattle.rules.specs.Opcodes as Opcodes;
 ghost use Rattle.act.specs.Calculations.{Makes};
-ghost use Rattle.lent.specs.Shown.{does};
+ghost use Rattle.fetch.specs.Stages.{Destined};
+ghost use Rattle.lent.specs.Shown.{answers, does};
 ghost use Rattle.lent.specs.Leaves.{Sets};
 
-use fetch::source::Fetched;
+use fetch::source::{Fetched, Taken};
 use numbers::arith;
 use player::Upshot;
 use player::refusal::Refusal;
@@ -33,11 +34,13 @@ fn put(f: Fetched, v: u32, registers: &mut Registers, variables: &mut [u32; 64])
     Ok(None)
 }
 
-pub fn load(f: Fetched, registers: &mut Registers, variables: &mut [u32; 64]) -> Upshot
-    requires { f.operands.dest.0 < 64 }
-    ensures { (n : ℕ) → Sets result (does (λ e. rule Op.Load f.operands n e) f.next)
+#[inline(always)]
+pub fn load(taken: Taken, registers: &mut Registers, variables: &mut [u32; 64]) -> Upshot
+    requires { Destined taken }
+    ensures { (n : ℕ) → Sets result (answers taken (λ o. rule Op.Load o n))
         registers.old registers.new variables.old variables.new }
 {
+    let f = taken?;
     put(f, f.operands.a, registers, variables)
 }
 
@@ -63,59 +66,73 @@ fn calculate<F: FnOnce(u32, u32) -> u32>(
     )
 }
 
-pub fn add(f: Fetched, registers: &mut Registers, variables: &mut [u32; 64]) -> Upshot
-    requires { f.operands.dest.0 < 64 }
-    ensures { (n : ℕ) → Sets result (does (λ e. rule Op.Add f.operands n e) f.next)
+#[inline(always)]
+pub fn add(taken: Taken, registers: &mut Registers, variables: &mut [u32; 64]) -> Upshot
+    requires { Destined taken }
+    ensures { (n : ℕ) → Sets result (answers taken (λ o. rule Op.Add o n))
         registers.old registers.new variables.old variables.new }
 {
+    let f = taken?;
     calculate(arith::add, f, registers, variables)
 }
 
-pub fn and(f: Fetched, registers: &mut Registers, variables: &mut [u32; 64]) -> Upshot
-    requires { f.operands.dest.0 < 64 }
-    ensures { (n : ℕ) → Sets result (does (λ e. rule Op.And f.operands n e) f.next)
+#[inline(always)]
+pub fn and(taken: Taken, registers: &mut Registers, variables: &mut [u32; 64]) -> Upshot
+    requires { Destined taken }
+    ensures { (n : ℕ) → Sets result (answers taken (λ o. rule Op.And o n))
         registers.old registers.new variables.old variables.new }
 {
+    let f = taken?;
     calculate(arith::and, f, registers, variables)
 }
 
-pub fn or(f: Fetched, registers: &mut Registers, variables: &mut [u32; 64]) -> Upshot
-    requires { f.operands.dest.0 < 64 }
-    ensures { (n : ℕ) → Sets result (does (λ e. rule Op.Or f.operands n e) f.next)
+#[inline(always)]
+pub fn or(taken: Taken, registers: &mut Registers, variables: &mut [u32; 64]) -> Upshot
+    requires { Destined taken }
+    ensures { (n : ℕ) → Sets result (answers taken (λ o. rule Op.Or o n))
         registers.old registers.new variables.old variables.new }
 {
+    let f = taken?;
     calculate(arith::or, f, registers, variables)
 }
 
-pub fn multiply(f: Fetched, registers: &mut Registers, variables: &mut [u32; 64]) -> Upshot
-    requires { f.operands.dest.0 < 64 }
-    ensures { (n : ℕ) → Sets result (does (λ e. rule Op.Multiply f.operands n e) f.next)
+#[inline(always)]
+pub fn multiply(taken: Taken, registers: &mut Registers, variables: &mut [u32; 64]) -> Upshot
+    requires { Destined taken }
+    ensures { (n : ℕ) → Sets result (answers taken (λ o. rule Op.Multiply o n))
         registers.old registers.new variables.old variables.new }
 {
+    let f = taken?;
     calculate(arith::mul, f, registers, variables)
 }
 
-pub fn increment(f: Fetched, registers: &mut Registers, variables: &mut [u32; 64]) -> Upshot
-    requires { f.operands.dest.0 < 64 }
-    ensures { (n : ℕ) → Sets result (does (λ e. rule Op.Increment f.operands n e) f.next)
+#[inline(always)]
+pub fn increment(taken: Taken, registers: &mut Registers, variables: &mut [u32; 64]) -> Upshot
+    requires { Destined taken }
+    ensures { (n : ℕ) → Sets result (answers taken (λ o. rule Op.Increment o n))
         registers.old registers.new variables.old variables.new }
 {
+    let f = taken?;
     calculate(|old, _| arith::inc(old), f, registers, variables)
 }
 
-pub fn decrement(f: Fetched, registers: &mut Registers, variables: &mut [u32; 64]) -> Upshot
-    requires { f.operands.dest.0 < 64 }
-    ensures { (n : ℕ) → Sets result (does (λ e. rule Op.Decrement f.operands n e) f.next)
+#[inline(always)]
+pub fn decrement(taken: Taken, registers: &mut Registers, variables: &mut [u32; 64]) -> Upshot
+    requires { Destined taken }
+    ensures { (n : ℕ) → Sets result (answers taken (λ o. rule Op.Decrement o n))
         registers.old registers.new variables.old variables.new }
 {
+    let f = taken?;
     calculate(|old, _| arith::dec(old), f, registers, variables)
 }
 
-pub fn divide(f: Fetched, registers: &mut Registers, variables: &mut [u32; 64]) -> Upshot
-    requires { f.operands.dest.0 < 64 }
-    ensures { (n : ℕ) → Sets result (does (λ e. rule Op.Divide f.operands n e) f.next)
+#[inline(always)]
+pub fn divide(taken: Taken, registers: &mut Registers, variables: &mut [u32; 64]) -> Upshot
+    requires { Destined taken }
+    ensures { (n : ℕ) → Sets result (answers taken (λ o. rule Op.Divide o n))
         registers.old registers.new variables.old variables.new }
 {
+    let f = taken?;
     let o = f.operands;
     let quotient = arith::quotient(old(o, &*variables), o.a);
     put(
@@ -126,11 +143,13 @@ pub fn divide(f: Fetched, registers: &mut Registers, variables: &mut [u32; 64]) 
     )
 }
 
-pub fn remainder(f: Fetched, registers: &mut Registers, variables: &mut [u32; 64]) -> Upshot
-    requires { f.operands.dest.0 < 64 }
-    ensures { (n : ℕ) → Sets result (does (λ e. rule Op.Remainder f.operands n e) f.next)
+#[inline(always)]
+pub fn remainder(taken: Taken, registers: &mut Registers, variables: &mut [u32; 64]) -> Upshot
+    requires { Destined taken }
+    ensures { (n : ℕ) → Sets result (answers taken (λ o. rule Op.Remainder o n))
         registers.old registers.new variables.old variables.new }
 {
+    let f = taken?;
     let o = f.operands;
     let remainder = arith::remainder(old(o, &*variables), o.a);
     put(
@@ -142,11 +161,13 @@ pub fn remainder(f: Fetched, registers: &mut Registers, variables: &mut [u32; 64
 }
 
 // Vd's value is kept first, the other second.
-pub fn compare(f: Fetched, registers: &mut Registers, variables: &[u32; 64]) -> Upshot
-    requires { f.operands.dest.0 < 64 }
-    ensures { (n : ℕ) → Sets result (does (λ e. rule Op.Compare f.operands n e) f.next)
+#[inline(always)]
+pub fn compare(taken: Taken, registers: &mut Registers, variables: &[u32; 64]) -> Upshot
+    requires { Destined taken }
+    ensures { (n : ℕ) → Sets result (answers taken (λ o. rule Op.Compare o n))
         registers.old registers.new variables.now variables.now }
 {
+    let f = taken?;
     let o = f.operands;
     registers.first = old(o, variables);
     registers.second = o.a;

@@ -1,4 +1,4 @@
-// What was fetched is carried out, or refused, as in `act`. Here are the opcodes that draw, and those that say how.
+// What was taken is carried out, or refused, as in `act`. Here are the opcodes that draw, and those that say how.
 #![tactic(auto)]
 
 mod point; // two values, or two offsets, as a point

@@ -7,13 +7,13 @@ ghost use Rattle.rules.specs.Environment.{moved};
 ghost use Rattle.rules.specs.Op as Op;
 ghost use Rattle.rules.specs.Opcodes as Opcodes;
 ghost use Rattle.rules.specs.Opcodes.{dot_fits, dots, typed as typed_shape, paints, rule};
-ghost use Rattle.lent.specs.Shown.{does};
+ghost use Rattle.lent.specs.Shown.{answers, does};
 ghost use Rattle.lent.specs.Leaves.{Goes};
 
 use crate::point::{circle_of, point_by, point_of};
 use brush::{Brush, Figure};
 use circles::circle::Circle;
-use fetch::source::Fetched;
+use fetch::source::Taken;
 use lines::line::Line;
 use numbers::place::WordIndex;
 use numbers::value::low8;
@@ -35,17 +35,21 @@ fn dot_at(x: u32, y: u32, colour: u8, next: WordIndex, registers: &mut Registers
 }
 
 // a, b: x and y.
-pub fn pixel(f: Fetched, registers: &mut Registers) -> Upshot
-    ensures { (n : ℕ) → Goes result (does (λ e. rule Op.Pixel f.operands n e) f.next) registers.old registers.new }
+#[inline(always)]
+pub fn pixel(taken: Taken, registers: &mut Registers) -> Upshot
+    ensures { (n : ℕ) → Goes result (answers taken (λ o. rule Op.Pixel o n)) registers.old registers.new }
 {
+    let f = taken?;
     let o = f.operands;
     dot_at(o.a, o.b, registers.colour, f.next, registers)
 }
 
 // a, b: x and y; c: the colour's long.
-pub fn pixel_colour(f: Fetched, registers: &mut Registers) -> Upshot
-    ensures { (n : ℕ) → Goes result (does (λ e. rule Op.PixelColour f.operands n e) f.next) registers.old registers.new }
+#[inline(always)]
+pub fn pixel_colour(taken: Taken, registers: &mut Registers) -> Upshot
+    ensures { (n : ℕ) → Goes result (answers taken (λ o. rule Op.PixelColour o n)) registers.old registers.new }
 {
+    let f = taken?;
     let o = f.operands;
     dot_at(o.a, o.b, low8(o.c), f.next, registers)
 }
@@ -70,9 +74,11 @@ fn typed(given: u32, pattern: u32, l: Line) -> Figure
 }
 
 // A line in the foreground colour. a: its type; b, c: x0 and y0; d, e: x1 and y1.
-pub fn line(f: Fetched, registers: &mut Registers) -> Upshot
-    ensures { (n : ℕ) → Goes result (does (λ e. rule Op.Line f.operands n e) f.next) registers.old registers.new }
+#[inline(always)]
+pub fn line(taken: Taken, registers: &mut Registers) -> Upshot
+    ensures { (n : ℕ) → Goes result (answers taken (λ o. rule Op.Line o n)) registers.old registers.new }
 {
+    let f = taken?;
     let o = f.operands;
     if other_type(1, o.a) {
         return Err(registers.refused(Refusal::NotAllowed));
@@ -104,10 +110,12 @@ fn draw_to(given: u32, q: Dot, next: WordIndex, registers: &mut Registers) -> Up
 }
 
 // a: the line's type; b, c: x and y.
-pub fn line_to(f: Fetched, registers: &mut Registers) -> Upshot
+#[inline(always)]
+pub fn line_to(taken: Taken, registers: &mut Registers) -> Upshot
     requires { dot_fits registers.old.position ≡ true }
-    ensures { (n : ℕ) → Goes result (does (λ e. rule Op.LineTo f.operands n e) f.next) registers.old registers.new }
+    ensures { (n : ℕ) → Goes result (answers taken (λ o. rule Op.LineTo o n)) registers.old registers.new }
 {
+    let f = taken?;
     let o = f.operands;
     if other_type(1, o.a) {
         return Err(registers.refused(Refusal::NotAllowed));
@@ -117,10 +125,12 @@ pub fn line_to(f: Fetched, registers: &mut Registers) -> Upshot
 }
 
 // a: the line's type; b, c: dx and dy.
-pub fn line_by(f: Fetched, registers: &mut Registers) -> Upshot
+#[inline(always)]
+pub fn line_by(taken: Taken, registers: &mut Registers) -> Upshot
     requires { dot_fits registers.old.position ≡ true }
-    ensures { (n : ℕ) → Goes result (does (λ e. rule Op.LineBy f.operands n e) f.next) registers.old registers.new }
+    ensures { (n : ℕ) → Goes result (answers taken (λ o. rule Op.LineBy o n)) registers.old registers.new }
 {
+    let f = taken?;
     let o = f.operands;
     if other_type(1, o.a) {
         return Err(registers.refused(Refusal::NotAllowed));
@@ -142,9 +152,11 @@ fn round(filled: bool, k: Circle) -> Figure
 }
 
 // A circle in the foreground colour, filled or the outline alone. a: its type; b, c: x and y of its centre; d: its radius.
-pub fn circle(f: Fetched, filled: bool, registers: &mut Registers) -> Upshot
-    ensures { Goes result (does (Opcodes.circles (Circles.circle filled) f.operands) f.next) registers.old registers.new }
+#[inline(always)]
+pub fn circle(taken: Taken, filled: bool, registers: &mut Registers) -> Upshot
+    ensures { Goes result (answers taken (Opcodes.circles (Circles.circle filled))) registers.old registers.new }
 {
+    let f = taken?;
     let o = f.operands;
     if other_type(0, o.a) {
         return Err(registers.refused(Refusal::NotAllowed));
@@ -158,9 +170,11 @@ pub fn circle(f: Fetched, filled: bool, registers: &mut Registers) -> Upshot
 }
 
 // Every drawable pixel. a: the colour's long; b: the wait word, which is ignored.
-pub fn clear(f: Fetched, registers: &mut Registers) -> Upshot
-    ensures { (n : ℕ) → Goes result (does (λ e. rule Op.Clear f.operands n e) f.next) registers.old registers.new }
+#[inline(always)]
+pub fn clear(taken: Taken, registers: &mut Registers) -> Upshot
+    ensures { (n : ℕ) → Goes result (answers taken (λ o. rule Op.Clear o n)) registers.old registers.new }
 {
+    let f = taken?;
     registers.counter = f.next;
     Ok(Some(Brush {
         figure: Figure::Every,

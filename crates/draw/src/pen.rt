@@ -3,11 +3,11 @@ ghost use Rattle.std.specs.Prelude.{◌≡◌, ℕ};
 ghost use Rattle.rules.specs.Op as Op;
 ghost use Rattle.rules.specs.Opcodes as Opcodes;
 ghost use Rattle.rules.specs.Opcodes.{rule};
-ghost use Rattle.lent.specs.Shown.{does};
+ghost use Rattle.lent.specs.Shown.{answers};
 ghost use Rattle.lent.specs.Leaves.{Goes};
 
 use crate::point::{point_by, point_of};
-use fetch::source::Fetched;
+use fetch::source::Taken;
 use numbers::value::low8;
 use player::Upshot;
 use player::refusal::Refusal;
@@ -16,9 +16,11 @@ use raster::frame::Window;
 use rules::environment::Registers;
 
 // a: the mode.
-pub fn clip_mode(f: Fetched, registers: &mut Registers) -> Upshot
-    ensures { (n : ℕ) → Goes result (does (λ e. rule Op.ClipMode f.operands n e) f.next) registers.old registers.new }
+#[inline(always)]
+pub fn clip_mode(taken: Taken, registers: &mut Registers) -> Upshot
+    ensures { (n : ℕ) → Goes result (answers taken (λ o. rule Op.ClipMode o n)) registers.old registers.new }
 {
+    let f = taken?;
     let mode = f.operands.a;
     if 2 < mode {
         return Err(registers.refused(Refusal::NotAllowed));
@@ -41,9 +43,11 @@ fn window(p: Dot, q: Dot) -> Window
 }
 
 // a, b: x0 and y0; c, d: x1 and y1.
-pub fn clip_window(f: Fetched, registers: &mut Registers) -> Upshot
-    ensures { (n : ℕ) → Goes result (does (λ e. rule Op.ClipWindow f.operands n e) f.next) registers.old registers.new }
+#[inline(always)]
+pub fn clip_window(taken: Taken, registers: &mut Registers) -> Upshot
+    ensures { (n : ℕ) → Goes result (answers taken (λ o. rule Op.ClipWindow o n)) registers.old registers.new }
 {
+    let f = taken?;
     let o = f.operands;
     let outside = registers.refused(Refusal::Outside);
     let p = point_of(o.a, o.b).ok_or(outside)?;
@@ -54,27 +58,33 @@ pub fn clip_window(f: Fetched, registers: &mut Registers) -> Upshot
 }
 
 // The low 8 bits. a: the colour's long.
-pub fn colour(f: Fetched, registers: &mut Registers) -> Upshot
-    ensures { (n : ℕ) → Goes result (does (λ e. rule Op.Colour f.operands n e) f.next) registers.old registers.new }
+#[inline(always)]
+pub fn colour(taken: Taken, registers: &mut Registers) -> Upshot
+    ensures { (n : ℕ) → Goes result (answers taken (λ o. rule Op.Colour o n)) registers.old registers.new }
 {
+    let f = taken?;
     registers.colour = low8(f.operands.a);
     registers.counter = f.next;
     Ok(None)
 }
 
 // a: the pattern's 32 bits.
-pub fn pattern(f: Fetched, registers: &mut Registers) -> Upshot
-    ensures { (n : ℕ) → Goes result (does (λ e. rule Op.Pattern f.operands n e) f.next) registers.old registers.new }
+#[inline(always)]
+pub fn pattern(taken: Taken, registers: &mut Registers) -> Upshot
+    ensures { (n : ℕ) → Goes result (answers taken (λ o. rule Op.Pattern o n)) registers.old registers.new }
 {
+    let f = taken?;
     registers.pattern = f.operands.a;
     registers.counter = f.next;
     Ok(None)
 }
 
 // a, b: x and y.
-pub fn move_to(f: Fetched, registers: &mut Registers) -> Upshot
-    ensures { (n : ℕ) → Goes result (does (λ e. rule Op.MoveTo f.operands n e) f.next) registers.old registers.new }
+#[inline(always)]
+pub fn move_to(taken: Taken, registers: &mut Registers) -> Upshot
+    ensures { (n : ℕ) → Goes result (answers taken (λ o. rule Op.MoveTo o n)) registers.old registers.new }
 {
+    let f = taken?;
     let o = f.operands;
     let outside = registers.refused(Refusal::Outside);
     registers.position = point_of(o.a, o.b).ok_or(outside)?;
@@ -83,9 +93,11 @@ pub fn move_to(f: Fetched, registers: &mut Registers) -> Upshot
 }
 
 // a, b: dx and dy.
-pub fn move_by(f: Fetched, registers: &mut Registers) -> Upshot
-    ensures { (n : ℕ) → Goes result (does (λ e. rule Op.MoveBy f.operands n e) f.next) registers.old registers.new }
+#[inline(always)]
+pub fn move_by(taken: Taken, registers: &mut Registers) -> Upshot
+    ensures { (n : ℕ) → Goes result (answers taken (λ o. rule Op.MoveBy o n)) registers.old registers.new }
 {
+    let f = taken?;
     let o = f.operands;
     let outside = registers.refused(Refusal::Outside);
     registers.position = point_by(registers.position, o.a, o.b).ok_or(outside)?;
@@ -94,9 +106,11 @@ pub fn move_by(f: Fetched, registers: &mut Registers) -> Upshot
 }
 
 // a, b: x and y.
-pub fn origin(f: Fetched, registers: &mut Registers) -> Upshot
-    ensures { (n : ℕ) → Goes result (does (λ e. rule Op.Origin f.operands n e) f.next) registers.old registers.new }
+#[inline(always)]
+pub fn origin(taken: Taken, registers: &mut Registers) -> Upshot
+    ensures { (n : ℕ) → Goes result (answers taken (λ o. rule Op.Origin o n)) registers.old registers.new }
 {
+    let f = taken?;
     let o = f.operands;
     let outside = registers.refused(Refusal::Outside);
     registers.origin = point_of(o.a, o.b).ok_or(outside)?;

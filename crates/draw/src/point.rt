@@ -9,6 +9,7 @@ use circles::circle::Circle;
 use numbers::coordinate::{coordinate_of, radius_of, shifted};
 use raster::dots::Dot;
 
+#[inline(always)]
 fn paired(x: Option<i32>, y: Option<i32>) -> Option<Dot>
     ensures { result ≡ Judged.paired x y }
 {
@@ -16,13 +17,16 @@ fn paired(x: Option<i32>, y: Option<i32>) -> Option<Dot>
 }
 
 // Two values as a point, judged at full width.
+#[inline(always)]
 pub fn point_of(a: u32, b: u32) -> Option<Dot>
     ensures { result ≡ point_of (Opcodes.point a b) }
 {
     paired(coordinate_of(a), coordinate_of(b))
 }
 
-// The point at two offsets from another: the offsets are judged, and then the sums.
+// The point at two offsets from another: the offsets are judged, and then the sums. Inlined, as a line by offsets and a move by them
+// make two callers.
+#[inline(always)]
 pub fn point_by(from: Dot, a: u32, b: u32) -> Option<Dot>
     ensures { result ≡ point_by from (Opcodes.point a b) }
 {
@@ -31,6 +35,7 @@ pub fn point_by(from: Dot, a: u32, b: u32) -> Option<Dot>
 }
 
 // A circle around the point (x, y).
+#[inline(always)]
 pub fn circle_of(x: u32, y: u32, radius: u32) -> Option<Circle>
     ensures { result ≡ round_of (Opcodes.point x y) (signed32 radius) }
 {

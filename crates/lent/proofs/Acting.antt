@@ -11,10 +11,13 @@ use Rattle.player.specs.Painting.{Painting, placed, nothing}
 use Rattle.player.specs.Player.{fault, Outcome, done, refused}
 use Rattle.player.specs.Shown.{marks, unmarked, went}
 use Rattle.numbers.specs.declared.place.WordIndex.{WordIndex}
+use Rattle.rules.specs.declared.opcode.Operands.{Operands}
 use Rattle.rules.specs.Environment.{Env, goto, frame}
 use Rattle.rules.specs.Opcodes.{Rule, paints}
 use Rattle.rules.specs.Step.{check, carried}
-use Rattle.lent.specs.Shown.{Shown, Upshot, seen, does}
+use Rattle.fetch.specs.declared.source.Fetched.{Fetched}
+use Rattle.fetch.specs.Stages.{Taken}
+use Rattle.lent.specs.Shown.{Shown, Upshot, seen, does, answers}
 
 -- the lowest that a rule breaks
 abbrev pub lowest : Rule → Option ℕ
@@ -99,6 +102,18 @@ told e is same x = rw (is, same) x
 pub handed-back : {u : Upshot} {v : Verdict} → IsErr u × IsErrAnd u (λ (x : Verdict). x ≡ v) → u ≡ Err v
 handed-back {u = Ok x} h = absurd (true≢false (sym h.0))
 handed-back {u = Err x} h = ap Err h.1
+
+-- ---- an op, by what was taken of its words, from the environment e
+module _ {t : Taken} (rule : Operands → Env → Rule) (e : Env) where
+  -- the refusal is handed back
+  pub passed-on : {v : Verdict} → t ≡ Err v → (u : Upshot) → IsErr u × IsErrAnd u (λ (x : Verdict). x ≡ v) → seen u e ≡ answers t rule e
+  unfolding answers
+  passed-on is u h = rw (is, handed-back h) refl
+
+  -- what was taken is carried out
+  pub taken-is : {f : Fetched} {X : Shown} → t ≡ Ok f → X ≡ does (rule f.operands) f.next e → X ≡ answers t rule e
+  unfolding answers
+  taken-is is x = rw is x
 
 -- and where there is none, of what it was asked for with the refusal w
 pub lacking : {A : Type 0} {o : Option A} {v w : Verdict} {u : Upshot} → IsErr u × IsErrAnd u (λ (x : Verdict). x ≡ v) → Err v ≡ ok_or o w → o ≡ None → u ≡ Err w

@@ -23,10 +23,10 @@ abbrev pub stop : Verdict → Env → Env
 stop v e = stated (Stopped v) e
 
 abbrev pub seen : Upshot → Env → Shown
-seen u e = AnyPlayer.seen frame stop u e
+seen u e = AnyPlayer.seen frame u e
 
 abbrev pub shown : Outcome Env → Env → Shown
-shown o e = AnyPlayer.shown stop o e
+shown o e = AnyPlayer.shown o e
 
 -- a rule carried out, with the next opcode at an index
 unfoldable pub does : (Env → Rule) → WordIndex → Env → Shown
@@ -34,5 +34,5 @@ does rule next e = shown (carried (rule (goto next e)) e) e
 
 -- the same by what was taken
 unfoldable pub answers : Taken → (Operands → Env → Rule) → Env → Shown
-answers (Err v) rule e = halted (stop v e)
+answers (Err v) rule e = halted v e
 answers (Ok f) rule e = does (rule f.operands) f.next e

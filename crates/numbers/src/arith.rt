@@ -59,6 +59,7 @@ pub fn or(a: u32, b: u32) -> u32
 }
 
 // The least number by -1 wraps to itself.
+#[inline(always)]
 pub fn quotient(a: u32, b: u32) -> Option<u32>
     ensures { result ≡ unless_zero b (quotient32 a b) }
 {
@@ -69,6 +70,7 @@ pub fn quotient(a: u32, b: u32) -> Option<u32>
 }
 
 // By -1 nothing is left, of the least number too.
+#[inline(always)]
 pub fn remainder(a: u32, b: u32) -> Option<u32>
     ensures { result ≡ unless_zero b (remainder32 a b) }
 {

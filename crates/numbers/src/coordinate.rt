@@ -6,6 +6,7 @@ ghost use Rattle.numbers.specs.Coordinate.{in_word, coordinate, radius};
 use crate::value::to_signed;
 
 // An i64 holds every sum of two values.
+#[inline(always)]
 fn judge(z: i64) -> Option<i32>
     ensures { result ≡ coordinate z }
 {
@@ -16,6 +17,7 @@ fn judge(z: i64) -> Option<i32>
     }
 }
 
+#[inline(always)]
 pub fn coordinate_of(v: u32) -> Option<i32>
     ensures { result ≡ coordinate (signed32 v) }
 {
@@ -23,6 +25,7 @@ pub fn coordinate_of(v: u32) -> Option<i32>
 }
 
 // Not by `judge`: a radius is no sum and has a range of its own, so that a function for both would be no plainer.
+#[inline(always)]
 pub fn radius_of(v: u32) -> Option<i32>
     ensures { result ≡ radius (signed32 v) }
 {
@@ -35,6 +38,7 @@ pub fn radius_of(v: u32) -> Option<i32>
 }
 
 // A coordinate shifted by an offset.
+#[inline(always)]
 pub fn shifted(at: i32, by: i32) -> Option<i32>
     ensures { result ≡ coordinate (at +ℤ by) }
 {

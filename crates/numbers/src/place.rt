@@ -37,6 +37,7 @@ impl WordIndex {
     }
 }
 
+#[inline(always)]
 #[tactic(auto, unfolding(crate::specs::Place::index_of))]
 fn index(n: u32, words: u32) -> Option<WordIndex>
     ensures { result ≡ index_of (pos n) words }
@@ -44,6 +45,7 @@ fn index(n: u32, words: u32) -> Option<WordIndex>
     if n < words { Some(WordIndex(n)) } else { None }
 }
 
+#[inline(always)]
 #[tactic(auto, unfolding(crate::specs::Place::word_of))]
 pub fn word_at(a: BitAddress, words: u32) -> Option<WordIndex>
     ensures { result ≡ word_of a words }
@@ -56,10 +58,11 @@ pub fn word_at(a: BitAddress, words: u32) -> Option<WordIndex>
 }
 
 // A sum below 0, or above 32 bits, is no index of any list.
+#[inline(always)]
 #[tactic(auto, using(crate::proofs::Places::past_32))]
 pub fn word_from(next: WordIndex, offset: u32, words: u32) -> Option<WordIndex>
     ensures { result ≡ index_of (pos next.0 +ℤ signed32 offset) words }
 {
-    let n = next.0.checked_add_signed(to_signed(offset))?;
+    let n = u32::try_from(i64::from(next.0) + i64::from(to_signed(offset))).ok()?;
     index(n, words)
 }

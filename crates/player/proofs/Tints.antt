@@ -1,26 +1,78 @@
--- A player whose opcodes paint in other colours: it is the same run, and its screen shows who wrote each dot.
+-- A player whose opcodes paint in other colours: what a loop that paints so leaves; it is the same run, and its screen shows who wrote each dot.
 use Prim.Native.Nat.{ℕ, zero, suc, ◌<◌}
-use mathlib.Core.Path.{◌≡◌, refl, ap, ◌∙◌}
+use mathlib.Core.Path.{◌≡◌, refl, sym, ap, ap₂, ◌∙◌}
 use mathlib.Core.Bool.{Bool, true, false, cond}
 use mathlib.Core.List.{List, [], ◌∷◌, map}
+use native.Mathlib.Omega.{arith}
 use lib.ListN.{length, get_or}
 use Rattle.raster.specs.declared.dots.Dot.{Dot}
 use Rattle.raster.specs.declared.frame.Bounds.{Bounds}
+use Rattle.raster.specs.declared.frame.Frame.{Frame}
+use Rattle.raster.specs.Shapes.{moved_by}
+use Rattle.raster.specs.Paint.{paint}
+use Rattle.std.specs.Prelude.{Ok, Err, Some, None}
+use Rattle.brush.specs.declared.Brush.{Brush}
+use Rattle.brush.specs.Brush.{shape_of}
+use Rattle.raster.proofs.Recolour.{none}
+use Rattle.player.specs.declared.Verdict.{Verdict}
 use Rattle.player.specs.declared.State.{State}
 use Rattle.player.specs.declared.State.TheVariants.{Running, Ended, Stopped}
 use Rattle.player.specs.Painting.{painted}
 use Rattle.player.specs.Player.{verdict, Outcome, done, refused, Player}
 use Rattle.player.specs.Run.{Answer, answer, got, Done, by_state, by_opcode, runs, traced, trace}
 use Rattle.player.specs.Keeps.{Stays, Keeps}
+use Rattle.player.specs.Shown.{Marks, marks, Shown, went, halted, shown, brushed, Upshot, seen}
 use Rattle.player.specs.Writing.{writes, Writer, nobody, step, or_else, writer, told}
 use Rattle.player.specs.Tinted.{in_colour, outcome_in, tinted}
 use Rattle.player.proofs.Runs.{is-traced}
 use Rattle.player.proofs.Hosts.{trace-inside}
+use Rattle.player.proofs.Turning.{Turned, marked-is, painting, quiet, not-carried-out}
 use Rattle.player.proofs.Writings.{shown_at, coloured}
+
+-- ---- what is seen of an opcode: the same, its dots in another colour
+abbrev shown_in : {E : Type 0} → ℕ → Shown E → Shown E
+shown_in c (went e m) = went e (record { bounds = m.bounds; dots = m.dots; colour = c })
+shown_in c (halted v e) = halted v e
+
+module _ {E : Type 0} (c : ℕ) (e : E) where
+  shown-in : (o : Outcome E) → shown_in c (shown o e) ≡ shown (outcome_in c o) e
+  shown-in (done e' p) = refl
+  shown-in (refused v) = refl
+
+  -- what went on in another colour went on
+  pub as-well : (o : Outcome E) (e₁ : E) (m : Marks) → went e₁ m ≡ shown (outcome_in c o) e → (n : Marks) × (went e₁ n ≡ shown o e)
+  as-well (done e' p) e₁ m q = let env : e' ≡ e₁ = cc in (marks p, ap (λ (x : E). went x (marks p)) (sym env))
+  as-well (refused v) e₁ m q = let z : ◌≡◌ {A = ℕ} 0 1 = cc in absurd (omega (arith, z))
 
 module _ {E : Type 0} (tint : E → ℕ) (P : Player E) where
   abbrev Q : Player E
   Q = tinted tint P
+
+  as_seen : (e : E) {x : Shown E} → x ≡ shown (P.step e) e → shown_in (tint e) x ≡ shown (Q.step e) e
+  as_seen e h = ap (shown_in (tint e)) h ∙ shown-in (tint e) e (P.step e)
+
+  -- ---- a loop: what a brush holds is painted in the tint
+  module _ (frame : E → Frame) (e : E) (s : List ℕ) {u : Upshot} (e₁ : E) (as-shown : seen frame u e₁ ≡ shown (P.step e) e) where
+    pub tinted-painting : {p : Brush} → u ≡ Ok (Some p) → {s₁ : List ℕ} {f : Frame} {c : ℕ} → f ≡ frame e₁ → c ≡ tint e
+        → s₁ ≡ paint f (moved_by f.origin (shape_of p.figure)) c s → Turned Q e s e₁ s₁
+    tinted-painting {p} is same hue x =
+        let q = in_colour (tint e) (brushed (frame e₁) p) in
+        record {
+          dots = marks q;
+          screen = x ∙ (ap₂ (λ (g : Frame) (c : ℕ). paint g (moved_by g.origin (shape_of p.figure)) c s) same hue ∙ sym (marked-is q s));
+          shows = as_seen e (painting P frame e s e₁ as-shown is);
+        }
+
+    pub tinted-quiet : u ≡ Ok None → {s₁ : List ℕ} → s₁ ≡ s → Turned Q e s e₁ s₁
+    tinted-quiet is x =
+        record {
+          dots = record { bounds = (frame e₁).bounds; dots = λ i j. false; colour = tint e };
+          screen = x ∙ none (λ k. false) (tint e) s (λ k l t. t);
+          shows = as_seen e (quiet P frame e s e₁ as-shown is);
+        }
+
+    pub tinted-refused : {v : Verdict} → u ≡ Err v → halted v e₁ ≡ shown (Q.step e) e
+    tinted-refused is = as_seen e (not-carried-out P frame e s e₁ as-shown is)
 
   -- ---- the same run: its verdict, environment and steps
   alike : (q : State) (o : Outcome E) (e : E) (s t : List ℕ) (k : ℕ) (f g : E → List ℕ → ℕ → Answer E)

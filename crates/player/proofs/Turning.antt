@@ -41,14 +41,14 @@ module _ {E : Type 0} (P : Player E) where
   pub record Turned (e : E) (s : List ℕ) (e₁ : E) (s₁ : List ℕ) : Type 0 where
     pub dots : Marks
     pub screen : s₁ ≡ marked dots s
-    pub shows : went e₁ dots ≡ shown P.stop (P.step e) e
+    pub shows : went e₁ dots ≡ shown (P.step e) e
 
   pub turned-long : {e : E} {s : List ℕ} {e₁ : E} {s₁ : List ℕ} → Turned e s e₁ s₁ → length s₁ ≡ length s
   turned-long {s = s} t = ap length t.screen ∙ length-recolour _ _ s
 
-  module _ (frame : E → Frame) (e : E) (s : List ℕ) {u : Upshot} (e₁ : E) (as-shown : seen frame P.stop u e₁ ≡ shown P.stop (P.step e) e) where
+  module _ (frame : E → Frame) (e : E) (s : List ℕ) {u : Upshot} (e₁ : E) (as-shown : seen frame u e₁ ≡ shown (P.step e) e) where
     -- what a brush holds is to be painted
-    pub painting : {p : Brush} → u ≡ Ok (Some p) → went e₁ (marks (brushed (frame e₁) p)) ≡ shown P.stop (P.step e) e
+    pub painting : {p : Brush} → u ≡ Ok (Some p) → went e₁ (marks (brushed (frame e₁) p)) ≡ shown (P.step e) e
     painting is = rw is at as-shown
 
     pub turned-painting : {p : Brush} → u ≡ Ok (Some p) → {s₁ : List ℕ} {f : Frame} → f ≡ frame e₁
@@ -61,14 +61,14 @@ module _ {E : Type 0} (P : Player E) where
         }
 
     -- nothing is
-    pub quiet : u ≡ Ok None → went e₁ (unmarked (frame e₁).bounds) ≡ shown P.stop (P.step e) e
+    pub quiet : u ≡ Ok None → went e₁ (unmarked (frame e₁).bounds) ≡ shown (P.step e) e
     quiet is = rw is at as-shown
 
     pub turned-quiet : u ≡ Ok None → {s₁ : List ℕ} → s₁ ≡ s → Turned e s e₁ s₁
     turned-quiet is x = let b = (frame e₁).bounds in record { dots = unmarked b; screen = x ∙ unmarked-is b s; shows = quiet is }
 
     -- it is refused
-    pub not-carried-out : {v : Verdict} → u ≡ Err v → halted (P.stop v e₁) ≡ shown P.stop (P.step e) e
+    pub not-carried-out : {v : Verdict} → u ≡ Err v → halted v e₁ ≡ shown (P.step e) e
     not-carried-out is = rw is at as-shown
 
 module _ {E : Type 0} (P : Player E) (e : E) (s : List ℕ) (k : ℕ) where
@@ -88,7 +88,7 @@ module _ {E : Type 0} (P : Player E) (left : ℕ) (e : E) (s : List ℕ) (k : �
   turn q o = by_state P q e s k (by_opcode P o e s k (λ e' s' j. runs P left e' s' j))
 
   -- an opcode that is carried out: the run goes on from what it shows
-  goes : (e₁ : E) (m : Marks) → P.state e ≡ Running → (o : Outcome E) → P.step e ≡ o → went e₁ m ≡ shown P.stop o e
+  goes : (e₁ : E) (m : Marks) → P.state e ≡ Running → (o : Outcome E) → P.step e ≡ o → went e₁ m ≡ shown o e
       → runs P (suc left) e s k ≡ runs P left e₁ (marked m s) (suc k)
   unfolding runs
   goes e₁ m h (done e' p) d q =
@@ -99,14 +99,16 @@ module _ {E : Type 0} (P : Player E) (left : ℕ) (e : E) (s : List ℕ) (k : �
       ∙ ap₂ (λ (x : E) (t : List ℕ). runs P left x t (suc k)) env (sym (marked-is p s) ∙ ap (λ (x : Marks). marked x s) dots))
   goes e₁ m h (refused v) d q = cc
 
-  -- one that is refused stops it, and what it is left with says the refusal
-  stops : Stops P → (e₁ : E) → P.state e ≡ Running → (o : Outcome E) → P.step e ≡ o → halted e₁ ≡ shown P.stop o e
-      → runs P (suc left) e s k ≡ answer (verdict_of (P.state e₁)) e₁ s k
+  -- one that is refused has changed nothing, and stops it: what it is left with says the refusal
+  stops : Stops P → {w : Verdict} (e₁ : E) → P.state e ≡ Running → (o : Outcome E) → P.step e ≡ o → halted w e₁ ≡ shown o e
+      → let stopped = P.stop w e₁ in runs P (suc left) e s k ≡ answer (verdict_of (P.state stopped)) stopped s k
   unfolding runs
   stops told e₁ h (done e' p) d q = cc
-  stops told e₁ h (refused v) d q =
-      let env : P.stop v e ≡ e₁ = cc in
-      let says : P.state e₁ ≡ Stopped v = ap P.state (sym env) ∙ told v e in
+  stops told {w} e₁ h (refused v) d q =
+      let same : v ≡ w = cc in
+      let kept : e ≡ e₁ = cc in
+      let env : P.stop v e ≡ P.stop w e₁ = ap₂ P.stop same kept in
+      let says : P.state (P.stop w e₁) ≡ Stopped v = ap P.state (sym env) ∙ told v e in
       ap (λ (x : State). turn x (P.step e)) h
       ∙ (ap (turn Running) d ∙ ap₂ (λ (w : Verdict) (x : E). answer w x s k) (sym (ap verdict_of says)) env)
 
@@ -123,7 +125,8 @@ module _ {E : Type 0} (P : Player E) (b k : ℕ) (e : E) (s : List ℕ) (R : Ans
       ∙ (goes P (b - (k + 1)) e s k e₁ t.dots q (P.step e) refl t.shows
       ∙ ap₂ (λ (x : List ℕ) (n : ℕ). runs P (b - (k + 1)) e₁ x n) (sym t.screen) (sym (add-one k)))
 
-  pub stop : Stops P → (e₁ : E) → k < b → P.state e ≡ Running → halted e₁ ≡ shown P.stop (P.step e) e → answer (verdict_of (P.state e₁)) e₁ s k ≡ R
+  pub stop : Stops P → {v : Verdict} (e₁ : E) → k < b → P.state e ≡ Running → halted v e₁ ≡ shown (P.step e) e
+      → let stopped = P.stop v e₁ in answer (verdict_of (P.state stopped)) stopped s k ≡ R
   stop told e₁ h q d = sym (more h ∙ stops P (b - (k + 1)) e s k told e₁ q (P.step e) refl d)
 
   pub used_up : b ≤ k → P.state e ≡ Running → answer (verdict_of (P.state e)) e s k ≡ R

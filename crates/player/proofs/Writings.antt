@@ -13,6 +13,7 @@ use Rattle.raster.specs.Paint.{column_of, row_of, hit}
 use Rattle.raster.specs.Frame.{in_pane, drawable}
 use Rattle.raster.proofs.Tests.{left, T_false}
 use Rattle.raster.proofs.Paintings.{byte-paint, drawable-pixel}
+use Rattle.player.specs.declared.Verdict.{Verdict}
 use Rattle.player.specs.declared.State.{State}
 use Rattle.player.specs.declared.State.TheVariants.{Running, Ended, Stopped}
 use Rattle.player.specs.Painting.{Painting, painted, drawn}
@@ -44,7 +45,7 @@ module _ {E A : Type 0} (tell : ℕ → E → ℕ → A) where
       abbrev turn : State → Outcome E → A
       turn q o = told tell a (writer k (traced P q o e (λ e'. trace P left e')) d)
 
-      goes : (e₁ : E) (m : Marks) → P.state e ≡ Running → (o : Outcome E) → P.step e ≡ o → went e₁ m ≡ shown P.stop o e
+      goes : (e₁ : E) (m : Marks) → P.state e ≡ Running → (o : Outcome E) → P.step e ≡ o → went e₁ m ≡ shown o e
           → rest a k (suc left) e ≡ rest (cond (m.dots d.x d.y) (tell k e m.colour) a) (suc k) left e₁
       unfolding trace writer
       goes e₁ m h (done e' p) s q =
@@ -58,7 +59,7 @@ module _ {E A : Type 0} (tell : ℕ → E → ℕ → A) where
           ∙ ap₂ (λ (x : Marks) (y : E). rest (cond (x.dots d.x d.y) (tell k e x.colour) a) (suc k) left y) dots env)))
       goes e₁ m h (refused v) s q = cc
 
-      stops : (e₁ : E) → P.state e ≡ Running → (o : Outcome E) → P.step e ≡ o → halted e₁ ≡ shown P.stop o e → rest a k (suc left) e ≡ a
+      stops : {v : Verdict} (e₁ : E) → P.state e ≡ Running → (o : Outcome E) → P.step e ≡ o → halted v e₁ ≡ shown o e → rest a k (suc left) e ≡ a
       unfolding trace writer
       stops e₁ h (done e' p) s q = cc
       stops e₁ h (refused v) s q = ap (λ (x : State). turn x (P.step e)) h ∙ ap (turn Running) s
@@ -79,7 +80,7 @@ module _ {E A : Type 0} (tell : ℕ → E → ℕ → A) where
       rested n = sym (at ∙ at_rest (b - k) e a (suc k) (P.state e) refl n)
 
       -- the next opcode is carried out, and these are its dots
-      pub went_on : (e₁ : E) (m : Marks) → went e₁ m ≡ shown P.stop (P.step e) e → k < b → P.state e ≡ Running
+      pub went_on : (e₁ : E) (m : Marks) → went e₁ m ≡ shown (P.step e) e → k < b → P.state e ≡ Running
           → R ≡ rest (cond (m.dots d.x d.y) (tell (k + 1) e m.colour) a) (suc (k + 1)) (b - (k + 1)) e₁
       went_on e₁ m s h q =
           more h
@@ -87,7 +88,7 @@ module _ {E A : Type 0} (tell : ℕ → E → ℕ → A) where
           ∙ ap (λ (n : ℕ). rest (cond (m.dots d.x d.y) (tell n e m.colour) a) (suc n) (b - (k + 1)) e₁) (sym (add-one k)))
 
       -- it is refused
-      pub stopped : (e₁ : E) → k < b → P.state e ≡ Running → halted e₁ ≡ shown P.stop (P.step e) e → a ≡ R
+      pub stopped : {v : Verdict} (e₁ : E) → k < b → P.state e ≡ Running → halted v e₁ ≡ shown (P.step e) e → a ≡ R
       stopped e₁ h q s = sym (more h ∙ stops (b - (k + 1)) e a (suc k) e₁ q (P.step e) refl s)
 
       -- the budget is used up

@@ -30,15 +30,15 @@ unmarked b = record { bounds = b; dots = λ x y. false; colour = 0 }
 abbrev pub marked : Marks → List ℕ → List ℕ
 marked m s = recolour (λ k. m.dots (column_of m.bounds k) (row_of m.bounds k)) m.colour s
 
--- ---- the environment afterwards with the dots that are painted, or as the refusal stopped it
+-- ---- the environment afterwards with the dots that are painted, or the refusal with the environment that it left
 pub data Shown (E : Type 0) : Type 0 where
   went : E → Marks → Shown E
-  halted : E → Shown E
+  halted : Verdict → E → Shown E
 
--- of an opcode in the environment e, which a refusal stops so
-abbrev pub shown : {E : Type 0} → (Verdict → E → E) → Outcome E → E → Shown E
-shown stop (done e' p) e = went e' (marks p)
-shown stop (refused v) e = halted (stop v e)
+-- of an opcode in the environment e, of which a refusal changes nothing
+abbrev pub shown : {E : Type 0} → Outcome E → E → Shown E
+shown (done e' p) e = went e' (marks p)
+shown (refused v) e = halted v e
 
 -- what a brush paints within a frame
 abbrev pub brushed : Frame → Brush → Painting
@@ -48,11 +48,11 @@ brushed f p = placed f (shape_of p.figure) p.colour
 abbrev pub Upshot : Type 0
 Upshot = Result (Option Brush) Verdict
 
--- with the environment that it leaves: nothing is painted, or what the brush holds, or it was refused, which stops the environment
-abbrev pub seen : {E : Type 0} → (E → Frame) → (Verdict → E → E) → Upshot → E → Shown E
-seen frame stop (Ok None) e = went e (unmarked (frame e).bounds)
-seen frame stop (Ok (Some p)) e = went e (marks (brushed (frame e) p))
-seen frame stop (Err v) e = halted (stop v e)
+-- with the environment that it leaves: nothing is painted, or what the brush holds, or it was refused
+abbrev pub seen : {E : Type 0} → (E → Frame) → Upshot → E → Shown E
+seen frame (Ok None) e = went e (unmarked (frame e).bounds)
+seen frame (Ok (Some p)) e = went e (marks (brushed (frame e) p))
+seen frame (Err v) e = halted v e
 
 -- ---- what a state answers; of one that still runs, that the budget is used up
 abbrev pub verdict_of : State → Verdict

@@ -30,6 +30,7 @@ pub enum Refusal {
 }
 
 impl Unfit {
+    #[inline(always)]
     pub fn number(self) -> u8
         ensures { result ≡ unfit_number self }
     {
@@ -44,6 +45,7 @@ impl Unfit {
 }
 
 impl Refusal {
+    #[inline(always)]
     pub fn number(self) -> u8
         ensures { result ≡ number_of self }
     {

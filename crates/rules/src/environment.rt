@@ -32,6 +32,7 @@ pub struct Registers {
 
 impl Registers {
     // The opcode at the counter is refused, where it begins.
+    #[inline(always)]
     pub fn refused(&self, refusal: Refusal) -> Verdict
         ensures { result ≡ fault (number_of refusal) self.now.counter }
     {

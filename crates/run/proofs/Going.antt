@@ -81,7 +81,7 @@ module _ {h : Hue} {w : List ℕ} {b : Bounds} {e₀ : Env} {s₀ : List ℕ} {b
       let shows = refused-in h w old u new (x b) is in
       let fits = leaves-fits w g.ready.few old g.ready.ranges shade shows in
       ap (λ (e : Env). left e s k) (stopped b r' vs' st' v (parted (stop v new) fits).3 now)
-      ∙ Turning.stop (inked h (afgis w)) budget k old s _ g.same (λ v e. refl) (stop v new) more runs-on shows
+      ∙ Turning.stop (inked h (afgis w)) budget k old s _ g.same (λ v e. refl) new more runs-on shows
 
   pub may-paint : {o : Option Brush} {p : Brush} {f : Frame} → u ≡ Ok o → o ≡ Some p → f ≡ frame new → Fitting f s
   may-paint is some same =

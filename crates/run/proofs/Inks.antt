@@ -20,13 +20,13 @@ use Rattle.player.proofs.Turning.{Turned, turned-painting}
 use Rattle.rules.specs.Environment.{Env, frame}
 use Rattle.rules.specs.Step.{step, afgis}
 use Rattle.rules.specs.Door.{door}
-use Rattle.lent.specs.Shown.{Shown, Upshot, stop, seen, shown}
+use Rattle.lent.specs.Shown.{Shown, Upshot, seen, shown}
 use Rattle.run.specs.Inks.{Hue, outcome_by, inked}
 
 -- what is shown, in another colour
 abbrev pub recoloured : (ℕ → ℕ) → Shown → Shown
 recoloured f (went e m) = went e (record { bounds = m.bounds; dots = m.dots; colour = f m.colour })
-recoloured f (halted e) = halted e
+recoloured f (halted v e) = halted v e
 
 shown-recoloured : (f : ℕ → ℕ) (o : Outcome Env) (e : Env) → recoloured f (shown o e) ≡ shown (outcome_by f o) e
 shown-recoloured f (done e' p) e = refl
@@ -56,7 +56,7 @@ module _ (h : Hue) (w : List ℕ) (e : Env) (u : Upshot) (e₁ : Env) (as-shown 
       refl same (left ∙ x)
 
   -- it is refused
-  pub refused-in : {v : Verdict} → u ≡ Err v → halted (stop v e₁) ≡ shown ((inked h (afgis w)).step e) e
+  pub refused-in : {v : Verdict} → u ≡ Err v → halted v e₁ ≡ shown ((inked h (afgis w)).step e) e
   refused-in is = rw is at tells
 
 -- ---- the same outcomes make the same answers

@@ -29,10 +29,10 @@ use Rattle.lent.specs.Lent.{look}
 use Rattle.lent.specs.Shown.{Shown, stop, shown}
 use Rattle.run.specs.Inks.{outcome_by}
 
--- ---- what is left is in range, in whatever colours
+-- ---- what is left, stopped where it was refused, is in range, in whatever colours
 abbrev pub left_in : Shown → Env
 left_in (went e m) = e
-left_in (halted e) = e
+left_in (halted v e) = stop v e
 
 module _ (w : List ℕ) (few : length w ≤ 65536) (e : Env) (h : fits e ≡ true) where
   shown-fits : (f : ℕ → ℕ) (o : Outcome Env) → Leaves (afgis w) (Fits e.bounds) e o → Fits e.bounds (left_in (shown (outcome_by f o) e))

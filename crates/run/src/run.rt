@@ -41,10 +41,12 @@ fn refused(unfit: Unfit, env: Env) -> Answer
 }
 
 // In the colours of an ink.
-pub fn run_in<I: Ink>(list: &[u16], screen: &mut [u8], mut env: Env, budget: u32, ink: &I) -> Answer
+pub fn run_in<I: Ink>(list: &[u16], screen: &mut [u8], env: Env, budget: u32, ink: &I) -> Answer
     ensures { said result screen.new
         ≡ answered (machine (I.hue ink.now)) (record { list = list.now; budget = budget }) (held env) screen.old }
 {
+    let mut registers = env.registers;
+    let mut variables = env.variables;
     let returns = env.stack;
     let repeats = env.repeats;
     let mut stack = Stack {
@@ -56,27 +58,36 @@ pub fn run_in<I: Ink>(list: &[u16], screen: &mut [u8], mut env: Env, budget: u32
         list.len(),
         screen.len(),
         env.bounds,
-        env.registers,
+        registers,
         &stack,
         budget,
     ) {
         return refused(unfit, env);
     }
-    let registers = &mut env.registers;
-    let variables = &mut env.variables;
     let steps = turns(
-        list, env.bounds, registers, variables, &mut stack, screen, ink, budget,
+        list,
+        env.bounds,
+        &mut registers,
+        &mut variables,
+        &mut stack,
+        screen,
+        ink,
+        budget,
     );
-    let verdict = verdict_of(state_of(env.registers));
+    let verdict = verdict_of(state_of(registers));
     let returns = stack.returns;
     let repeats = stack.repeats;
-    env.stack = returns;
-    env.nesting = stack.nesting;
-    env.repeats = repeats;
     Answer {
         number: verdict.number,
         place: verdict.place,
-        env,
+        env: Env {
+            bounds: env.bounds,
+            registers,
+            variables,
+            stack: returns,
+            nesting: stack.nesting,
+            repeats,
+        },
         steps,
     }
 }

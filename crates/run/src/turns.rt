@@ -7,7 +7,7 @@ ghost use Rattle.run.specs.Inks.{inked};
 ghost use Rattle.run.specs.Turns.{Ready, left};
 
 use crate::ink::Ink;
-use brush::{Brush, paint};
+use brush::{Brush, Figure, paint};
 use lent::{Stack, frame};
 use numbers::place::WordIndex;
 use raster::frame::Bounds;
@@ -25,7 +25,7 @@ fn dipped<I: Ink>(brush: Brush, ink: &I, opcode: WordIndex) -> Brush
     }
 }
 
-// How many were carried out.
+// How many were carried out. The state is asked as the run begins and behind each opcode, so it runs wherever the loop is.
 pub fn turns<I: Ink>(
     words: &[u16],
     b: Bounds,
@@ -41,21 +41,27 @@ pub fn turns<I: Ink>(
         ≡ runs (inked (I.hue ink.now) (afgis words.now)) budget
         (look b registers.old vars.old stack.old) screen.old 0 }
 {
+    if registers.state != 0 {
+        return 0;
+    }
     for steps in 0..budget {
-        // A byte, as C is told it: 0 runs, and whatever else is in range does not.
-        if registers.state != 0 {
-            return steps;
-        }
         let opcode = registers.counter;
-        let painting = match step(words, registers, vars, stack) {
-            Ok(painting) => painting,
+        let mut brush = Brush {
+            figure: Figure::Every,
+            colour: 0,
+        };
+        let painted = match step(words, registers, vars, stack, &mut brush) {
+            Ok(painted) => painted,
             Err(refusal) => {
                 registers.stop(refusal);
                 return steps;
             }
         };
-        if let Some(brush) = painting {
+        if painted {
             paint(screen, frame(b, registers), dipped(brush, ink, opcode));
+        }
+        if registers.state != 0 {
+            return steps + 1;
         }
     }
     budget

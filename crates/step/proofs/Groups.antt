@@ -1,17 +1,13 @@
--- What an op promises of what was fetched is what its opcode must show, by what it means.
-use Rattle.std.proofs.Common.{◌≡◌, ℕ, List, length, Ok, Err, sym, ap, ◌∙◌}
-use Rattle.std.specs.Result.{IsErr, IsErrAnd}
-use Rattle.player.specs.declared.Verdict.{Verdict}
+-- What an op promises of what was taken is what its opcode must show, by what it means.
+use Rattle.std.proofs.Common.{◌≡◌, ℕ, List, length, sym, ap, ◌∙◌}
 use Rattle.rules.specs.Op.{Op}
 use Rattle.rules.specs.Operands.{Source}
 use Rattle.rules.specs.Meaning.{Meaning, Known}
 use Rattle.rules.specs.Environment.{Env}
 use Rattle.rules.specs.Opcodes.{rule}
-use Rattle.fetch.specs.declared.source.Fetched.{Fetched}
 use Rattle.fetch.specs.Stages.{Taken, taken_of}
-use Rattle.lent.specs.Shown.{Shown, Upshot, seen, does, answers}
+use Rattle.lent.specs.Shown.{Shown, answers}
 use Rattle.lent.specs.Leaves.{Showing}
-use Rattle.lent.proofs.Acting.{handed-back}
 use Rattle.step.specs.Steps.{shows}
 
 module _ {m : Meaning} {op : Op} {source : Source} (k : m ≡ Known op source) (w : List ℕ) (pc : ℕ) (vs : List ℕ) {t : Taken} (g : t ≡ taken_of source w pc vs) where
@@ -19,12 +15,6 @@ module _ {m : Meaning} {op : Op} {source : Source} (k : m ≡ Known op source) (
   unfolding shows
   as-shown = ap (λ (x : Taken). answers x (λ o. rule op o (length w))) g ∙ sym (ap (λ (x : Meaning). shows x w pc vs) k)
 
-  -- it was refused as it was fetched, and nothing is changed
-  pub not-fetched : {v : Verdict} → t ≡ Err v → (u : Upshot) → IsErr u × IsErrAnd u (λ (x : Verdict). x ≡ v) → (e : Env) → seen u e ≡ shows m w pc vs e
-  unfolding answers
-  not-fetched is u h e = ap (λ (x : Upshot). seen x e) (handed-back h) ∙ ap (λ (f : Showing). f e) (ap (λ (x : Taken). answers x (λ o. rule op o (length w))) (sym is) ∙ as-shown)
-
-  -- the op was carried out on what was fetched
-  pub carried-out : {f : Fetched} → t ≡ Ok f → {X : Shown} (e : Env) → X ≡ does (rule op f.operands (length w)) f.next e → X ≡ shows m w pc vs e
-  unfolding answers
-  carried-out is e x = x ∙ ap (λ (f : Showing). f e) (ap (λ (y : Taken). answers y (λ o. rule op o (length w))) (sym is) ∙ as-shown)
+  -- the op answers what was taken, and its opcode shows so
+  pub carried-out : {X : Shown} (e : Env) → X ≡ answers t (λ o. rule op o (length w)) e → X ≡ shows m w pc vs e
+  carried-out e x = x ∙ ap (λ (f : Showing). f e) as-shown

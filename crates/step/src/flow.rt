@@ -23,16 +23,16 @@ pub fn step(
 {
     let count = here.words.len() as u32;
     match form {
-        FlowForm::Noop => flow::noop(here.plain(0)?, registers),
-        FlowForm::Eodl => flow::end(here.plain(0)?, registers),
-        FlowForm::Cal => flow::call(here.long()?, count, registers, stack),
-        FlowForm::Calv => flow::call(here.variables(vars, 1)?, count, registers, stack),
-        FlowForm::Erpt => repeats::end_repeat(here.plain(0)?, registers, stack),
-        FlowForm::Rpt => repeats::repeat(here.plain(1)?, registers, stack),
-        FlowForm::Rtrn => flow::come_back(here.plain(0)?, registers, &*stack),
-        FlowForm::Jumpa => flow::jump(here.word_long()?, count, registers),
-        FlowForm::Jumpr => flow::jump_by(here.plain(2)?, count, registers),
-        FlowForm::Calr => flow::call_by(here.plain(1)?, count, registers, stack),
-        FlowForm::Calrv => flow::call_by(here.variables(vars, 1)?, count, registers, stack),
+        FlowForm::Noop => flow::noop(here.plain(0), registers),
+        FlowForm::Eodl => flow::end(here.plain(0), registers),
+        FlowForm::Cal => flow::call(here.long(), count, registers, stack),
+        FlowForm::Calv => flow::call(here.variables(vars, 1), count, registers, stack),
+        FlowForm::Erpt => repeats::end_repeat(here.plain(0), registers, stack),
+        FlowForm::Rpt => repeats::repeat(here.plain(1), registers, stack),
+        FlowForm::Rtrn => flow::come_back(here.plain(0), registers, &*stack),
+        FlowForm::Jumpa => flow::jump(here.word_long(), count, registers),
+        FlowForm::Jumpr => flow::jump_by(here.plain(2), count, registers),
+        FlowForm::Calr => flow::call_by(here.plain(1), count, registers, stack),
+        FlowForm::Calrv => flow::call_by(here.variables(vars, 1), count, registers, stack),
     }
 }

@@ -9,7 +9,7 @@ ghost use Rattle.who.specs.Who.{found};
 ghost use Rattle.who.specs.Following.{Ready, pixel};
 
 use crate::{Writer, saying};
-use brush::Brush;
+use brush::{Brush, Figure};
 use contains::contains;
 use contains::pixel::Pixel;
 use lent::{Stack, frame};
@@ -36,7 +36,7 @@ fn named(before: Writer, f: Frame, brush: Brush, d: Pixel, step: u32, opcode: Wo
     }
 }
 
-// Who wrote the dot last.
+// Who wrote the dot last. The state is asked as the run begins and behind each opcode, so it runs wherever the loop is.
 pub fn last_writer(
     words: &[u16],
     b: Bounds,
@@ -52,17 +52,24 @@ pub fn last_writer(
         (look b registers.old vars.old stack.old) budget (pixel d.column d.row) }
 {
     let mut writer = saying(0);
+    if registers.state != 0 {
+        return writer;
+    }
     for steps in 0..budget {
-        if registers.state != 0 {
-            return writer;
-        }
         let opcode = registers.counter;
-        let Ok(painting) = step(words, registers, vars, stack) else {
+        let mut brush = Brush {
+            figure: Figure::Every,
+            colour: 0,
+        };
+        let Ok(painted) = step(words, registers, vars, stack, &mut brush) else {
             return writer;
         };
-        if let Some(brush) = painting {
+        if painted {
             let f = frame(b, &*registers);
             writer = named(writer, f, brush, d, steps + 1, opcode);
+        }
+        if registers.state != 0 {
+            return writer;
         }
     }
     writer

@@ -1,7 +1,11 @@
 -- `jump`: the target is given by its bit address.
 use Rattle.std.proofs.Common.{rules}
 use Rattle.rules.specs.Opcodes.{absolute}
+use Rattle.lent.proofs.Acting.{passed-on, taken-is}
 use Rattle.act.proofs.flow.jump.Goals as goal
 
+pub returns-in_err-f : goal.returns-in_err-f
+returns-in_err-f c b vs st = passed-on _ _ c.in_err-f.was c.from_residual.result c.from_residual.ensures
+
 pub returns : goal.returns
-returns c = c.jump_to.ensures (λ e. absolute c.args.f.operands.b c.args.count) (λ t p e. search rules)
+returns c b vs st = taken-is _ _ c.in_ok-f.was (c.jump_to.ensures (λ e. absolute c.in_ok-f.f.operands.b c.args.count) (λ t p e. search rules) b vs st)

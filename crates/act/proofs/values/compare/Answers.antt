@@ -1,7 +1,10 @@
 -- `compare`: both values are kept.
 use Rattle.std.proofs.Common.{refl}
-use Rattle.lent.proofs.Acting.{quiet}
+use Rattle.lent.proofs.Acting.{quiet, passed-on, taken-is}
 use Rattle.act.proofs.values.compare.Goals as goal
 
+pub returns-in_err-f : goal.returns-in_err-f
+returns-in_err-f c n b st = passed-on _ _ c.in_err-f.was c.from_residual.result c.from_residual.ensures
+
 pub returns : goal.returns
-returns c n b st = quiet _ _ _ refl (rw c.old-registers.ensures refl) refl refl
+returns c n b st = taken-is _ _ c.in_ok-f.was (quiet _ _ _ refl (rw c.old-registers.ensures refl) refl refl)

@@ -36,19 +36,27 @@ returns-in-Unknown c b =
 pub returns-in-Flow : goal.returns-in-Flow
 returns-in-Flow c b =
     let g = c.args in
-    c.step.ensures b g.vars.now ∙ is-step c.requires c.if-words-at.false (means g.words.now _ c.form_of.ensures c.in-Flow.is) b
+    let z = c.step.new in
+    ap (λ u. seen u (look b z.registers g.vars.now z.stack)) c.hand_over.ensures
+    ∙ c.step.ensures b g.vars.now ∙ is-step c.requires c.if-words-at.false (means g.words.now _ c.form_of.ensures c.in-Flow.is) b
 
 pub returns-in-Value : goal.returns-in-Value
 returns-in-Value c b =
     let g = c.args in
-    c.step-in-Value.ensures b g.stack.now ∙ is-step c.requires c.if-words-at.false (means g.words.now _ c.form_of.ensures c.in-Value.is) b
+    let z = c.step-in-Value.new in
+    ap (λ u. seen u (look b z.registers z.vars g.stack.now)) c.hand_over-in-Value.ensures
+    ∙ c.step-in-Value.ensures b g.stack.now ∙ is-step c.requires c.if-words-at.false (means g.words.now _ c.form_of.ensures c.in-Value.is) b
 
 pub returns-in-Pen : goal.returns-in-Pen
 returns-in-Pen c b =
     let g = c.args in
-    c.step-in-Pen.ensures b g.vars.now g.stack.now ∙ is-step c.requires c.if-words-at.false (means g.words.now _ c.form_of.ensures c.in-Pen.is) b
+    let z = c.step-in-Pen.new in
+    ap (λ u. seen u (look b z.registers g.vars.now g.stack.now)) c.hand_over-in-Pen.ensures
+    ∙ c.step-in-Pen.ensures b g.vars.now g.stack.now ∙ is-step c.requires c.if-words-at.false (means g.words.now _ c.form_of.ensures c.in-Pen.is) b
 
 pub returns-in-Paint : goal.returns-in-Paint
 returns-in-Paint c b =
     let g = c.args in
-    c.step-in-Paint.ensures b g.vars.now g.stack.now ∙ is-step c.requires c.if-words-at.false (means g.words.now _ c.form_of.ensures c.in-Paint.is) b
+    let z = c.step-in-Paint.new in
+    ap (λ u. seen u (look b z.registers g.vars.now g.stack.now)) c.hand_over-in-Paint.ensures
+    ∙ c.step-in-Paint.ensures b g.vars.now g.stack.now ∙ is-step c.requires c.if-words-at.false (means g.words.now _ c.form_of.ensures c.in-Paint.is) b

@@ -18,7 +18,9 @@ pub record Going (w : List ℕ) (b : Bounds) (e : Env) (budget : ℕ) (d : Dot) 
   pub ready : Ready w b g vs st
   pub same : found w e budget d ≡ Writings.rest naming (afgis w) d r (suc k) (budget - k) (look b g vs st)
 
+-- where the loop is, the state runs
 abbrev pub invariant-loop-steps : goal.invariant-loop-steps
 invariant-loop-steps l =
     Going l.words l.b (look l.b l.initial.registers l.initial.vars l.initial.stack) l.budget (pixel l.d.column l.d.row)
     l.registers l.vars l.stack l.writer l.steps
+    × (l.registers.state ≡ 0)
