@@ -1,7 +1,8 @@
 -- Laws of parts whose bytes lie side by side: a run of bytes, a part of a row, and rows as wide as the screen.
-use Rattle.std.proofs.Common.{rules, take, drop, length-take, length-drop, ◌≡◌, ℕ, ◌+◌, ◌-◌, ◌*◌, ◌/◌, ◌%◌, ◌<◌, ◌≤◌, T, ltb, leb, List, length, replicate, get_or, cond, true, ap, ◌∙◌, subst, mod-lt, div-lt_iff_lt-mul, le-div_iff_mul-le, arith, le→leb, ltb→lt, lt→ltb, leb→le}
+use Rattle.std.proofs.Common.{rules, take, drop, length-take, length-drop, ◌≡◌, ℕ, refl, ◌+◌, ◌-◌, ◌*◌, ◌/◌, ◌%◌, ◌<◌, ◌≤◌, T, ltb, leb, List, [], ◌∷◌, length, replicate, get_or, cond, true, ap, ◌∙◌, subst, mod-lt, div-lt_iff_lt-mul, le-div_iff_mul-le, arith, le→leb, ltb→lt, lt→ltb, leb→le}
 use native.Mathlib.Decide.{dec_lt}
 use borrow.Rule.Slice.PartMut.{put_mid}
+use Rattle.std.specs.List.{FoldsTo}
 use Rattle.std.proofs.lemmas.List.{places}
 use Rattle.raster.specs.declared.rect.Rect.{Rect}
 use Rattle.raster.specs.Paint.{recolour}
@@ -33,6 +34,14 @@ filled a e c s ys l m p = rw (p ∙ ap (λ (n : ℕ). replicate n c) many) (only
     by j h (yes u) d = rw (T_false (between a e j) (λ t. let q = between_is a e j t in omega arith)) (search (rules, places))
     by j h (no u) (yes v) = rw (same (between a e j) true (λ _. tt) (λ _. is-between a e j (omega arith) v)) (search (rules, places))
     by j h (no u) (no v) = rw (T_false (between a e j) (λ t. let q = between_is a e j t in omega arith)) (search (rules, places))
+
+-- bytes that a closure gave, one call for each: as long as it holds c, it gives c and holds it still
+module _ {F : Type 0} (gives : F → ℕ → F → Type 0) (c : ℕ) (holds : F → Type 0) (once : (f : F) (x : ℕ) (g : F) → holds f → gives f x g → (x ≡ c) × holds g) where
+  pub all-alike : (f : F) (xs : List ℕ) (last : F) → holds f → FoldsTo gives f xs last → xs ≡ replicate (length xs) c
+  all-alike f [] last h p = refl
+  all-alike f (x ∷ xs) last h p =
+      let one = once f x p.0 h p.1 in
+      rw one.0 (ap (λ (l : List ℕ). c ∷ l) (all-alike p.0 xs last one.1 p.2))
 
 -- a rectangle with no column or no row has no pixel
 pub no-pixel : (w : ℕ) (r : Rect) (c : ℕ) (s : List ℕ) → ((r.l ≤ r.r) × (r.t ≤ r.b) → ⊥) → s ≡ pixels w (in_rect r) c s

@@ -1,7 +1,7 @@
 // Parts of the screen whose bytes lie side by side: painted with no test for each dot.
 // Bytes and width are two parameters: each function here hands them on once, and who has many steps to paint, as `circles`, holds them in
 // a struct of its own.
-ghost use Rattle.std.specs.Prelude.{◌≡◌, ◌+◌, ◌<◌, ◌≤◌, length};
+ghost use Rattle.std.specs.Prelude.{◌≡◌, ◌+◌, ◌<◌, ◌≤◌, length, replicate};
 ghost use Rattle.raster.specs.Paint.{recolour};
 ghost use Rattle.raster.specs.Biased.{bias};
 ghost use Rattle.raster.specs.Rects.{pixels, in_rect, Room};
@@ -9,6 +9,13 @@ ghost use Rattle.raster.specs.Parts.{between, row_part};
 
 use crate::biased::BIAS;
 use crate::rect::Rect;
+
+// Every byte. The compiler makes one memset of it; the library's `fill` sets the last byte apart from the others, behind it.
+fn set_bytes(bytes: &mut [u8], c: u8)
+    ensures { bytes.new ≡ replicate (length bytes.old) c }
+{
+    bytes.fill_with(move || c);
+}
 
 // Columns x0 to x1 of row y, both ends inside: none where x0 is above x1.
 pub fn row_part(screen: &mut [u8], w: u32, y: u32, x0: u32, x1: u32, c: u8)
@@ -19,7 +26,7 @@ pub fn row_part(screen: &mut [u8], w: u32, y: u32, x0: u32, x1: u32, c: u8)
         let at = (y - BIAS) as usize * (w as usize);
         let from = at + (x0 - BIAS) as usize;
         let to = at + (x1 + 1 - BIAS) as usize;
-        screen[from..to].fill(c);
+        set_bytes(&mut screen[from..to], c);
     }
 }
 
@@ -32,6 +39,6 @@ pub fn whole_rows(screen: &mut [u8], w: u32, r: Rect, c: u8)
     if r.t <= r.b {
         let from = ((r.t - BIAS) * w) as usize;
         let to = ((r.b + 1 - BIAS) * w) as usize;
-        screen[from..to].fill(c);
+        set_bytes(&mut screen[from..to], c);
     }
 }

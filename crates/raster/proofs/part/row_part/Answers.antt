@@ -7,7 +7,7 @@ use Rattle.raster.proofs.part.row_part.Goals as goal
 pub returns-then-x0-x1 : goal.returns-then-x0-x1
 returns-then-x0-x1 c =
     let g = c.args in
-    filled _ _ g.c g.screen.now _ (search rules) (search rules) (c.fill.ensures.after (λ _ e. e))
+    filled _ _ g.c g.screen.now _ (search rules) (search rules) c.set_bytes.ensures
     ∙ as_bytes g.w g.y g.x0 g.x1 g.screen.now c.requires c.if-x0-x1.true g.c
 
 pub returns-else-x0-x1 : goal.returns-else-x0-x1

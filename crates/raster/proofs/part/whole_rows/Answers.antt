@@ -7,7 +7,7 @@ pub returns-then-r : goal.returns-then-r
 returns-then-r c =
     let g = c.args in
     let h = c.requires.w_nonzero in
-    filled _ _ g.c g.screen.now _ (search rules) (search rules) (c.fill.ensures.after (λ _ e. e))
+    filled _ _ g.c g.screen.now _ (search rules) (search rules) c.set_bytes.ensures
     ∙ rows-as-bytes g.w g.r g.screen.now c.requires.room h.0 h.1 h.2 g.c
 
 pub returns-else-r : goal.returns-else-r
