@@ -1,4 +1,3 @@
 -- What the contracts of act cite.
 pub mod Conditions
-pub mod Targets
 pub mod Calculations

@@ -1,12 +1,9 @@
 // Jumps, calls, returns and the end of the list.
-ghost use Rattle.std.specs.Prelude.{◌≡◌, ℕ, Option};
-ghost use Rattle.numbers.specs.declared.place.WordIndex.{WordIndex as Index};
+ghost use Rattle.std.specs.Prelude.{◌≡◌, ℕ};
 ghost use Rattle.rules.specs.Op as Op;
-ghost use Rattle.rules.specs.Environment.{Env, goto};
-ghost use Rattle.rules.specs.Opcodes.{jumps, calls, rule};
+ghost use Rattle.rules.specs.Opcodes.{calls, rule};
 ghost use Rattle.lent.specs.Shown.{answers, does};
 ghost use Rattle.lent.specs.Leaves.{Goes, Stacks, Stacked};
-ghost use Rattle.act.specs.Targets.{Targets};
 ghost use Rattle.act.specs.Conditions as Conditions;
 
 use fetch::source::Taken;
@@ -34,34 +31,22 @@ fn is_met(k: u32, first: u32, second: u32) -> Option<bool>
     }
 }
 
-// A jump on condition k: one not taken does not look at its target.
-fn jump_to<F: FnOnce() -> Option<WordIndex>>(
-    k: u32,
-    target: F,
-    next: WordIndex,
-    registers: &mut Registers,
-) -> Upshot
-    requires { F.pre target }
-    ensures { (T : Env → Option Index) → Targets (F.post target) T next
-        → Goes result (does (λ e. jumps k (T e) e) next) registers.old registers.new }
-{
-    let met = is_met(k, registers.first, registers.second);
-    if met.ok_or(registers.refused(Refusal::NotAllowed))? {
-        registers.counter = target().ok_or(registers.refused(Refusal::NoTarget))?;
-    } else {
-        registers.counter = next;
-    }
-    Ok(None)
-}
-
-// a: the condition; b: the target's bit address.
+// a: the condition; b: the target's bit address. A jump that is not taken does not look at its target. This one and the next each ask
+// for themselves: one function for both, handed a closure for the target, is slower (docs/DECISIONS.md, T10.8).
 #[inline(always)]
 pub fn jump(taken: Taken, count: u32, registers: &mut Registers) -> Upshot
     ensures { Goes result (answers taken (λ o. rule Op.Jump o count)) registers.old registers.new }
 {
     let f = taken?;
     let o = f.operands;
-    jump_to(o.a, || word_at(BitAddress(o.b), count), f.next, registers)
+    let met = is_met(o.a, registers.first, registers.second);
+    if met.ok_or(registers.refused(Refusal::NotAllowed))? {
+        let target = word_at(BitAddress(o.b), count);
+        registers.counter = target.ok_or(registers.refused(Refusal::NoTarget))?;
+    } else {
+        registers.counter = f.next;
+    }
+    Ok(None)
 }
 
 // a: the condition; b: the offset in words.
@@ -71,10 +56,18 @@ pub fn jump_by(taken: Taken, count: u32, registers: &mut Registers) -> Upshot
 {
     let f = taken?;
     let o = f.operands;
-    jump_to(o.a, || word_from(f.next, o.b, count), f.next, registers)
+    let met = is_met(o.a, registers.first, registers.second);
+    if met.ok_or(registers.refused(Refusal::NotAllowed))? {
+        let target = word_from(f.next, o.b, count);
+        registers.counter = target.ok_or(registers.refused(Refusal::NoTarget))?;
+    } else {
+        registers.counter = f.next;
+    }
+    Ok(None)
 }
 
 // A call: the return index is the next opcode's.
+#[inline(always)]
 fn call_to(
     target: Option<WordIndex>,
     next: WordIndex,
