@@ -8,6 +8,7 @@ use crate::pixel::Pixel;
 use raster::biased::Spot;
 
 // A point a columns and b rows from the centre is within the radius.
+#[inline(always)]
 fn reaches(q: u32, a: u32, b: u32) -> bool
     requires { (q < 32768) × (a ≤ 131072) × (b ≤ 131072) }
     ensures { result ≡ reach q a b }
@@ -19,6 +20,7 @@ fn reaches(q: u32, a: u32, b: u32) -> bool
 }
 
 // It is a dot of the outline: within the radius, and one further out is not.
+#[inline(always)]
 fn at_edge(q: u32, a: u32, b: u32) -> bool
     requires { (q < 32768) × (a < 131072) × (b < 131072) }
     ensures { result ≡ circle_at false q a b }
@@ -26,6 +28,7 @@ fn at_edge(q: u32, a: u32, b: u32) -> bool
     reaches(q, a, b) && (!reaches(q, a + 1, b) || !reaches(q, a, b + 1))
 }
 
+#[inline(always)]
 pub fn on_disc(p: Spot, q: u32, d: Pixel) -> bool
     requires { NearB p × (q < 32768) }
     ensures { result ≡ disc (circle_of p q) (pos d.column) (pos d.row) }
@@ -34,6 +37,7 @@ pub fn on_disc(p: Spot, q: u32, d: Pixel) -> bool
     reaches(q, p.x.abs_diff(s.x), p.y.abs_diff(s.y))
 }
 
+#[inline(always)]
 pub fn on_outline(p: Spot, q: u32, d: Pixel) -> bool
     requires { NearB p × (q < 32768) }
     ensures { result ≡ outline (circle_of p q) (pos d.column) (pos d.row) }

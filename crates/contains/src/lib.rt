@@ -20,6 +20,7 @@ use raster::dots::Dot;
 use raster::frame::Frame;
 use raster::rect::visible;
 
+#[inline(always)]
 fn on_dot(p: Spot, d: Pixel) -> bool
     ensures { result ≡ dot (dot_of p) (pos d.column) (pos d.row) }
 {
@@ -27,6 +28,7 @@ fn on_dot(p: Spot, d: Pixel) -> bool
 }
 
 // The shape that the brush holds, moved to the origin, has a dot in this pixel.
+#[inline(always)]
 #[tactic(auto, using(crate::proofs::Figures::figures))]
 fn on_shape(brush: Brush, o: Dot, d: Pixel) -> bool
     requires { Word o.x × Word o.y }
@@ -43,6 +45,7 @@ fn on_shape(brush: Brush, o: Dot, d: Pixel) -> bool
 }
 
 // `brush::paint` would write this pixel of the screen.
+#[inline(always)]
 pub fn contains(f: Frame, brush: Brush, d: Pixel) -> bool
     requires { Sane f × (d.column < f.bounds.width) × (d.row < f.bounds.height) }
     ensures { result ≡ (drawable f (pos d.column) (pos d.row) && moved_by f.origin (shape_of brush.figure) (pos d.column) (pos d.row)) }

@@ -18,21 +18,30 @@ use raster::frame::{Bounds, Frame};
 use rules::environment::Registers;
 use step::step::step;
 
+// A step in place of whoever was named before. A call, and a rare one: so who is named lies in memory and does not go round with the
+// loop.
+#[cold]
+#[inline(never)]
+fn put(writer: &mut Writer, colour: u8, step: u32, opcode: WordIndex)
+    ensures { writer.new ≡ record { number = 0; colour = colour; step = step; opcode = opcode } }
+{
+    *writer = Writer {
+        number: 0,
+        colour,
+        step,
+        opcode,
+    };
+}
+
 // Who is named behind an opcode that paints: this step where it wrote the dot, else whoever was named before.
-fn named(before: Writer, f: Frame, brush: Brush, d: Pixel, step: u32, opcode: WordIndex) -> Writer
+#[inline(always)]
+fn named(writer: &mut Writer, f: Frame, brush: Brush, d: Pixel, step: u32, opcode: WordIndex)
     requires { Sane f × (d.column < f.bounds.width) × (d.row < f.bounds.height) }
-    ensures { result ≡ cond (writes (brushed f brush) (pixel d.column d.row))
-        (record { number = 0; colour = brush.colour; step = step; opcode = opcode }) before }
+    ensures { writer.new ≡ cond (writes (brushed f brush) (pixel d.column d.row))
+        (record { number = 0; colour = brush.colour; step = step; opcode = opcode }) writer.old }
 {
     if contains(f, brush, d) {
-        Writer {
-            number: 0,
-            colour: brush.colour,
-            step,
-            opcode,
-        }
-    } else {
-        before
+        put(writer, brush.colour, step, opcode);
     }
 }
 
@@ -66,7 +75,7 @@ pub fn last_writer(
         };
         if painted {
             let f = frame(b, &*registers);
-            writer = named(writer, f, brush, d, steps + 1, opcode);
+            named(&mut writer, f, brush, d, steps + 1, opcode);
         }
         if registers.state != 0 {
             return writer;

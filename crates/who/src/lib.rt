@@ -29,6 +29,7 @@ pub struct Writer {
 }
 
 // A number, and nobody named.
+#[inline(always)]
 pub fn saying(number: u8) -> Writer
     ensures { result ≡ saying number }
 {

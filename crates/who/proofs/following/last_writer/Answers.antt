@@ -99,8 +99,8 @@ returns-then-registers-ne0 c = rests (began c.requires.ready c.saying-writer.ens
 pub loop-steps-init : goal.loop-steps-init
 loop-steps-init c = (began c.requires.ready c.saying-writer.ensures, c.if-registers-ne0.false)
 
-pub named-writer-requires : goal.named-writer-requires
-named-writer-requires c =
+pub named-requires : goal.named-requires
+named-requires c =
     let z = c.step.new in
     let i = c.loop-steps.invariant in
     let h = c.requires.inside in
@@ -122,7 +122,7 @@ returns-then-registers-ne0-2 c =
     let turned : Turned a.words.now (look a.b i.registers i.vars i.stack) (look a.b z.registers z.vars z.stack) (pixel a.d.column a.d.row) i.steps i.writer c.if-painted.writer =
     elim c.if-painted.branch [
       | then-painted w ↦ turned-brushed i.invariant.0 i.invariant.1 u z.registers z.vars z.stack c.step.ensures {p = z.brush}
-          (rw (c.in-Ok.is, w.if-painted.true) refl) (w.frame-f.ensures z.vars z.stack) (w.writer-is ∙ w.named-writer.ensures)
+          (rw (c.in-Ok.is, w.if-painted.true) refl) (w.frame-f.ensures z.vars z.stack) (w.writer-is ∙ w.named.ensures)
       | else-painted w ↦ turned-quiet i.invariant.0 i.invariant.1 u z.registers z.vars z.stack c.step.ensures
           (rw (c.in-Ok.is, w.if-painted.false) refl) w.writer-is
     ] in
@@ -137,7 +137,7 @@ loop-steps-preserved c =
     let turned : Turned a.words.now (look a.b i.registers i.vars i.stack) (look a.b z.registers z.vars z.stack) (pixel a.d.column a.d.row) i.steps i.writer c.if-painted.writer =
     elim c.if-painted.branch [
       | then-painted w ↦ turned-brushed i.invariant.0 i.invariant.1 u z.registers z.vars z.stack c.step.ensures {p = z.brush}
-          (rw (c.in-Ok.is, w.if-painted.true) refl) (w.frame-f.ensures z.vars z.stack) (w.writer-is ∙ w.named-writer.ensures)
+          (rw (c.in-Ok.is, w.if-painted.true) refl) (w.frame-f.ensures z.vars z.stack) (w.writer-is ∙ w.named.ensures)
       | else-painted w ↦ turned-quiet i.invariant.0 i.invariant.1 u z.registers z.vars z.stack c.step.ensures
           (rw (c.in-Ok.is, w.if-painted.false) refl) w.writer-is
     ] in
